@@ -1,3 +1,3 @@
 mod Prelude
 -- What the proofs of several functions use.
-mod Words
+mod Stored

@@ -1,185 +1,223 @@
-// The answers with an entry for each kind or plate: the reports of a plan's checks, with the copies of 64 kinds, the weights found, and the
-// profits of a rack.
-ghost use Rattle.std.specs.Prelude.{◌≡◌, [], ◌+◌, ◌≤◌, ◌<◌, length, take, set};
-ghost use Rattle.std.proofs.lemmas.List.Edits.{sets};
+// The values of each report, in the order of the C interface.
+ghost use Rattle.std.specs.Prelude.{◌≡◌, [], ◌∷◌, ◌+◌, ◌-◌, ◌≤◌, length};
 ghost use Rattle.cutting.specs.Limits.{most_kinds};
 ghost use Rattle.cutting.specs.Lists.{over};
-ghost use Rattle.refusal.specs.Refusals.{by_check, outcome_by};
-ghost use Rattle.promises.specs.declared.Checked.TheVariants.{Passed};
-ghost use Rattle.plan.specs.Calls.{plan_values, plan_outcome};
-ghost use Rattle.saw.specs.Saw.{saw_values, saw_outcome};
-ghost use Rattle.staged_plan.specs.Check.{staged_check_outcome};
-ghost use Rattle.rounds.specs.Rounds.{found_values, found_outcome};
-ghost use Rattle.answer_words.specs.Words.{Gives};
+ghost use Rattle.promises.specs.Calls.{plan_values, staged_values, bound_values, two_values, write_values, exact_values, certificate_values, neat_values};
+ghost use Rattle.promises.specs.Rounds.{found_values};
+ghost use Rattle.promises.specs.Saw.{saw_values};
+ghost use Rattle.promises.specs.True.{true_values};
+ghost use Rattle.promises.specs.Orders.{plates_values, lagrangian_values};
+ghost use Rattle.answer_words.specs.Words.{GapWithin, InOrder, part_values};
 
-use crate::{put_four, put_three, put_two_words, refuse};
+use crate::{Words, put_behind, put_words};
 use promises::{
-    Checked, PlanAnswer, RackAnswer, Report, SawAnswer, SawReport, StagedAnswer, WeightsFound,
+    BoundReport, Certificate, ExactReport, LagrangianReport, Part, PlatesReport, Report, SawReport,
+    StagedReport, TrueReport, TwoReport, WeightsFound, WriteReport,
 };
 
-// A number of copies as a word: an entry of an array has no range of its own in a proof, and a parameter has.
-fn wide(n: u16) -> u64
-    ensures { result ≡ n }
+// The copies of 64 kinds as words.
+fn copy_words(copies: [u16; 64]) -> [u64; 64]
+    ensures { (result ≡ copies) × (length copies ≡ most_kinds) }
 {
-    n as u64
+    copies.map(u64::from)
 }
 
-// The copies of 64 kinds, from a word on. That they are 64 is handed on to the proof of the caller.
-fn put_copies(copies: [u16; 64], from: usize, answer: &mut [u64])
-    requires { from + 64 ≤ length answer.old }
-    ensures { (answer.new ≡ sets answer.old from copies) × (length copies ≡ most_kinds) }
+// The weights of 64 kinds as words.
+fn weight_words(weights: [u8; 64]) -> [u64; 64]
+    ensures { (result ≡ weights) × (length weights ≡ most_kinds) }
 {
-    for i in 0..64 {
-        answer[from + i] = wide(copies[i]);
+    weights.map(u64::from)
+}
+
+// A check, which has no values.
+impl Words for () {
+    ghost count = { 0 };
+
+    ghost values = { λ _. [] };
+
+    fn put(&self, answer: &mut [u64]) {}
+}
+
+// A number of nodes.
+impl Words for u64 {
+    ghost count = { 1 };
+
+    ghost values = { neat_values };
+
+    fn put(&self, answer: &mut [u64]) {
+        answer[0] = *self;
     }
 }
 
-// One value more, into the word behind others.
-fn put_word(value: u64, at: usize, answer: &mut [u64])
-    requires { at < length answer.old }
-    ensures { answer.new ≡ set answer.old at value }
-{
-    answer[at] = value;
+impl Words for BoundReport {
+    ghost count = { 4 };
+
+    ghost values = { bound_values };
+
+    fn put(&self, answer: &mut [u64]) {
+        let counts = [self.capacity, self.length_count, self.columns].map(u64::from);
+        put_words(&[self.bound], answer);
+        put_words(&counts, &mut answer[1..]);
+    }
 }
 
-// What a passed plan reports: profit, the areas of pieces, waste nodes and trim, the copies, and the area of the sawdust. That these are 69
-// words is handed on.
-fn put_report(r: Report, answer: &mut [u64])
+impl Words for WriteReport {
+    ghost count = { 5 };
+
+    ghost values = { write_values };
+
+    fn put(&self, answer: &mut [u64]) {
+        let counts = [self.capacity, self.length_count, self.columns].map(u64::from);
+        put_words(&[self.bound], answer);
+        put_words(&counts, &mut answer[1..]);
+        answer[4] = self.nodes;
+    }
+}
+
+impl Words for TwoReport {
+    ghost count = { 5 };
+
+    ghost values = { two_values };
+
+    fn put(&self, answer: &mut [u64]) {
+        let counts = [
+            self.first_capacity,
+            self.second_capacity,
+            self.length_count,
+            self.columns,
+        ]
+        .map(u64::from);
+        put_words(&[self.bound], answer);
+        put_words(&counts, &mut answer[1..]);
+    }
+}
+
+impl Words for ExactReport {
+    ghost count = { 5 };
+
+    ghost values = { exact_values };
+
+    fn put(&self, answer: &mut [u64]) {
+        let counts = [self.length_count, self.columns].map(u64::from);
+        put_words(&[self.optimum, u64::from(self.states)], answer);
+        put_words(&counts, &mut answer[2..]);
+        answer[4] = self.nodes;
+    }
+}
+
+impl Words for PlatesReport {
+    ghost count = { 3 };
+
+    ghost values = { plates_values };
+
+    fn put(&self, answer: &mut [u64]) {
+        put_words(&[self.plates, self.bound, self.worth], answer);
+    }
+}
+
+impl Words for LagrangianReport {
+    ghost count = { 5 };
+
+    ghost values = { lagrangian_values };
+
+    fn put(&self, answer: &mut [u64]) {
+        answer[0] = self.lagrangian;
+        self.lowered.put(&mut answer[1..]);
+    }
+}
+
+impl Words for TrueReport {
+    ghost count = { 3 };
+
+    ghost values = { true_values };
+
+    fn put(&self, answer: &mut [u64]) {
+        put_words(&[self.nodes, self.length, self.width], answer);
+    }
+}
+
+// The gap, 0 for best, the bound and the profit.
+impl Words for Certificate {
+    ghost count = { 3 };
+
+    ghost values = { certificate_values };
+
+    ghost fits = { GapWithin };
+
+    fn put(&self, answer: &mut [u64]) {
+        match *self {
+            Certificate::Best(profit) => put_words(&[0, profit, profit], answer),
+            Certificate::Gap(profit, gap) => put_words(&[gap, profit + gap, profit], answer),
+        }
+    }
+}
+
+// The first entry of a part and the number of its entries.
+impl Words for Part {
+    ghost count = { 2 };
+
+    ghost values = { part_values };
+
+    ghost fits = { InOrder };
+
+    fn put(&self, answer: &mut [u64]) {
+        put_words(
+            &[self.first as u64, (self.past - self.first) as u64],
+            answer,
+        );
+    }
+}
+
+// A plan's report. That it has 69 values is handed on to the proof of the caller.
+fn put_report(r: &Report, answer: &mut [u64])
     requires { 69 ≤ length answer.old }
-    ensures { (answer.new ≡ over (plan_values r) answer.old) × (length (plan_values r) ≡ 69) }
+    ensures { (answer.new ≡ over (plan_values r.now) answer.old) × (length (plan_values r.now) ≡ 69) }
 {
-    put_four(r.profit, r.pieces, r.waste, r.trim, answer);
-    let copies = r.copies;
-    put_copies(copies, 4, answer);
-    put_word(r.sawdust, 68, answer);
+    put_words(&[r.profit, r.pieces, r.waste, r.trim], answer);
+    put_behind(&copy_words(r.copies), 4, answer);
+    answer[68] = r.sawdust;
 }
 
-// What the saw reports of a passed plan: the areas of pieces, waste nodes and trim, the copies, and the area of the sawdust.
-fn put_saw_report(r: SawReport, answer: &mut [u64])
-    requires { 68 ≤ length answer.old }
-    ensures { answer.new ≡ over (saw_values r) answer.old }
-{
-    put_three(r.pieces, r.waste, r.trim, answer);
-    let copies = r.copies;
-    put_copies(copies, 3, answer);
-    put_word(r.sawdust, 67, answer);
-}
+impl Words for Report {
+    ghost count = { 69 };
 
-// What the check of a plan answers.
-pub fn put_plan(a: PlanAnswer, answer: &mut [u64]) -> u32
-    requires { 69 ≤ length answer.old }
-    ensures { Gives (plan_outcome a) result answer.old answer.new }
-{
-    let verdict = a.verdict;
-    match verdict {
-        Checked::Refused(r) => refuse(r, answer),
-        Checked::Passed => {
-            let report = a.report;
-            put_report(report, answer);
-            0
-        }
+    ghost values = { plan_values };
+
+    fn put(&self, answer: &mut [u64]) {
+        put_report(self, answer);
     }
 }
 
-// What the staged check answers: what the check of a plan does, and the stages.
-pub fn put_staged(a: StagedAnswer, answer: &mut [u64]) -> u32
-    requires { 70 ≤ length answer.old }
-    ensures { Gives (staged_check_outcome a) result answer.old answer.new }
-{
-    let verdict = a.verdict;
-    match verdict {
-        Checked::Refused(r) => refuse(r, answer),
-        Checked::Passed => {
-            let report = a.report;
-            put_report(report, answer);
-            put_word(a.stages as u64, 69, answer);
-            0
-        }
+impl Words for StagedReport {
+    ghost count = { 70 };
+
+    ghost values = { staged_values };
+
+    fn put(&self, answer: &mut [u64]) {
+        put_report(&self.report, answer);
+        answer[69] = u64::from(self.stages);
     }
 }
 
-// What the saw's check of a plan answers.
-pub fn put_saw(a: SawAnswer, answer: &mut [u64]) -> u32
-    requires { 68 ≤ length answer.old }
-    ensures { Gives (saw_outcome a) result answer.old answer.new }
-{
-    let verdict = a.verdict;
-    match verdict {
-        Checked::Refused(r) => refuse(r, answer),
-        Checked::Passed => {
-            let report = a.report;
-            put_saw_report(report, answer);
-            0
-        }
+impl Words for SawReport {
+    ghost count = { 68 };
+
+    ghost values = { saw_values };
+
+    fn put(&self, answer: &mut [u64]) {
+        put_words(&[self.pieces, self.waste, self.trim], answer);
+        put_behind(&copy_words(self.copies), 3, answer);
+        answer[67] = self.sawdust;
     }
 }
 
-// A weight in 16 bits, for the same reason.
-fn wide_weight(n: u8) -> u16
-    ensures { result ≡ n }
-{
-    n as u16
-}
+impl Words for WeightsFound {
+    ghost count = { 66 };
 
-// The weights of 64 kinds in 16 bits, as copies are.
-fn widened(weights: [u8; 64]) -> [u16; 64]
-    ensures { result ≡ weights }
-{
-    let mut entries = [0u16; 64];
-    for i in 0..64 {
-        entries[i] = wide_weight(weights[i]);
-    }
-    entries
-}
+    ghost values = { found_values };
 
-// What the weight rounds found: the least bound met, the rounds run and the weights that first gave the bound.
-fn put_least(a: WeightsFound, answer: &mut [u64])
-    requires { 66 ≤ length answer.old }
-    ensures { answer.new ≡ over (found_values a) answer.old }
-{
-    put_two_words(a.bound, a.rounds as u64, answer);
-    let weights = a.weights;
-    put_copies(widened(weights), 2, answer);
-}
-
-// What the call that finds weights answers.
-pub fn put_found(a: WeightsFound, answer: &mut [u64]) -> u32
-    requires { 66 ≤ length answer.old }
-    ensures { Gives (found_outcome a) result answer.old answer.new }
-{
-    let verdict = a.verdict;
-    match verdict {
-        Checked::Refused(r) => refuse(r, answer),
-        Checked::Passed => {
-            put_least(a, answer);
-            0
-        }
-    }
-}
-
-// The profits of a rack's plates, at most 16.
-fn copy_profits(values: [u64; 16], profits: &mut [u64])
-    requires { length profits.old ≤ 16 }
-    ensures { profits.new ≡ take (length profits.old) values }
-{
-    for i in 0..profits.len() {
-        profits[i] = values[i];
-    }
-}
-
-// What the check of a rack answers: a pass has no word and writes the profits.
-pub fn put_profits(a: RackAnswer, profits: &mut [u64], answer: &mut [u64]) -> u32
-    requires { (1 ≤ length answer.old) × (a.verdict ≡ Passed → length profits.old ≤ 16) }
-    ensures words { Gives (outcome_by a.verdict []) result answer.old answer.new }
-    ensures profits { profits.new ≡ by_check a.verdict (take (length profits.old) a.profits) (λ r. profits.old) }
-{
-    let verdict = a.verdict;
-    match verdict {
-        Checked::Refused(r) => refuse(r, answer),
-        Checked::Passed => {
-            let values = a.profits;
-            copy_profits(values, profits);
-            0
-        }
+    fn put(&self, answer: &mut [u64]) {
+        put_words(&[self.bound, u64::from(self.rounds)], answer);
+        put_behind(&weight_words(self.weights), 2, answer);
     }
 }

@@ -1,14 +1,9 @@
 -- What the bound call promises, from the job's and the weights' verdicts and from the bound of an accepted job.
-use Rattle.bound.proofs.Prelude.{◌≡◌, refl, sym, ◌∙◌, ap, ap₂, subst, List, ◌++◌, ℕ, ◌≤◌, length, arith, Sides, rect_of, sides_of, Job, InRange, widened, capacity, most_capacity, listed_weight, pieces_job, PieceArray, recursion, figures_most, normal_listed, floor_figures, Check, next, first_refusal, by_check, outcome_by, Refusal, Checked, Passed, Refused, Choices, JobRecord, job_of, ReadAlike, block_job, weight_in, weight_checks, Accepted, passed_both, kerf_none_read, weights_passed, accepted_both, accepted_in_range, Taken, Memory, Leaves, wide_job, answer_by, bound_report, memory_checks, report_values, block_capacity, block_report, accept_verdict, bound_verdict, bound_answer, bound_outcome, BoundLeaves, BoundSaid, BoundPromises, Boundable, Bounded, RecordBoundable, BoundReport, BoundAnswer}
-use Rattle.promises.specs.declared.BoundAnswer.TheVariants as answer
+use Rattle.bound.proofs.Prelude.{◌≡◌, refl, sym, ◌∙◌, ap, ap₂, subst, List, ◌++◌, ℕ, ◌≤◌, length, arith, Sides, rect_of, sides_of, InRange, widened, capacity, most_capacity, listed_weight, pieces_job, PieceArray, recursion, figures_most, normal_listed, floor_figures, Check, next, first_refusal, Refusal, Choices, JobRecord, job_of, ReadAlike, block_job, weight_in, weight_checks, Accepted, passed_both, kerf_none_read, weights_passed, accepted_both, accepted_in_range, Taken, Memory, Leaves, wide_job, answer_by, bound_report, memory_checks, bound_values, block_capacity, block_report, accept_verdict, bound_verdict, bound_answer, bound_outcome, BoundLeaves, BoundSaid, BoundPromises, Boundable, Bounded, RecordBoundable, BoundReport, Err, Answer, acceptance_of, Acceptance, refused_both}
 use Rattle.bound.proofs.Listed.{pieces_range, pieces_bounded}
-use Rattle.bound.proofs.Holds.{bound_held, answered_behind}
-
-module _ (J : Job) (weight : ℕ → ℕ) (q : ℕ) (m : Memory) where
-  -- a refusal before the storage checks is the call's, and changes nothing
-  refused_before : {A : Type 0} (a : A) (f : Refusal → A) {v : Checked} {r : Refusal} → v ≡ Refused r
-      → (f r ≡ by_check (next v (first_refusal (memory_checks J q m))) a f) × Leaves v J weight q m m
-  refused_before a f e = (sym (ap (λ v. by_check (next v (first_refusal (memory_checks J q m))) a f) e), rw e (record { lengths = refl; widths = refl; table = refl }))
+use Rattle.bound.proofs.Holds.{bound_held}
+use Rattle.refusal.proofs.Results.{before_refuses, before_passes, refused_answer, said_by, value_answered}
+use Rattle.std.specs.Result.{IsErrAnd}
 
 -- what the bound of a record's pieces asks, and what it says of the record
 module _ (j : JobRecord) (weight : ℕ → ℕ) (q : ℕ) {plate : Sides} {n : ℕ} {pieces : List ℕ} (e : plate ≡ sides_of (widened (job_of j)).plate) (a : PieceArray (widened (job_of j)) weight n pieces) where
@@ -18,7 +13,7 @@ module _ (j : JobRecord) (weight : ℕ → ℕ) (q : ℕ) {plate : Sides} {n : �
       record { in_range = pieces_range (job_of j) weight n pieces a range; most = low; floors_there = h } in
       subst (λ p. Boundable (pieces_job (rect_of p) n pieces) q floors) (sym e) b
 
-  pub record_bounded : {floors : List ℕ} {old new : Memory} {r : BoundAnswer} → Bounded (pieces_job (rect_of plate) n pieces) (listed_weight pieces) q old new floors r
+  pub record_bounded : {floors : List ℕ} {old new : Memory} {r : Answer BoundReport} → Bounded (pieces_job (rect_of plate) n pieces) (listed_weight pieces) q old new floors r
       → Bounded (widened (job_of j)) weight q old new floors r
   record_bounded {floors} {old} {new} {r} b =
       pieces_bounded (widened (job_of j)) weight n pieces a q old new floors r (subst (λ p. Bounded (pieces_job (rect_of p) n pieces) (listed_weight pieces) q old new floors r) e b)
@@ -44,32 +39,27 @@ module _ (s : List ℕ) (choices : Choices) (ws : List ℕ) {j : JobRecord} {q :
   record_ready = record { in_range = range_taken; weighed = weights_there; most = capacity_low }
 
   -- what the bound of the record says of the job's block
-  pub block_bounded : {floors : List ℕ} {old new : Memory} {r : BoundAnswer} → Bounded (widened (job_of j)) (weight_in ws) q old new floors r
+  pub block_bounded : {floors : List ℕ} {old new : Memory} {r : Answer BoundReport} → Bounded (widened (job_of j)) (weight_in ws) q old new floors r
       → Bounded (wide_job s choices) (weight_in ws) (block_capacity s choices ws) old new floors r
   block_bounded {floors} {old} {new} {r} b =
       let d : Bounded (widened (job_of j)) (weight_in ws) (block_capacity s choices ws) old new floors r = subst (λ q. Bounded (widened (job_of j)) (weight_in ws) q old new floors r) t.capacity_is b in
       subst (λ j. Bounded (widened (job_of j)) (weight_in ws) (block_capacity s choices ws) old new floors r) t.record_is d
 
   -- and what the bound of the pieces says of it
-  pub job_bounded : {plate : Sides} {n : ℕ} {pieces floors : List ℕ} {old new : Memory} {r : BoundAnswer} → plate ≡ sides_of (widened (job_of j)).plate → PieceArray (widened (job_of j)) (weight_in ws) n pieces
+  pub job_bounded : {plate : Sides} {n : ℕ} {pieces floors : List ℕ} {old new : Memory} {r : Answer BoundReport} → plate ≡ sides_of (widened (job_of j)).plate → PieceArray (widened (job_of j)) (weight_in ws) n pieces
       → Bounded (pieces_job (rect_of plate) n pieces) (listed_weight pieces) q old new floors r → Bounded (wide_job s choices) (weight_in ws) (block_capacity s choices ws) old new floors r
   job_bounded e a b = block_bounded (record_bounded j (weight_in ws) q e a b)
-
--- an answer's number and values are those of its verdict
-said_by : (v : Checked) (b : BoundReport) → bound_outcome (answer_by v b) ≡ outcome_by v (report_values b)
-said_by Passed b = refl
-said_by (Refused r) b = refl
 
 -- an answered bound is exact
 pub exact_by : (s : List ℕ) (choices : Choices) (ws : List ℕ) (m : Memory) → BoundSaid s choices ws (bound_answer s choices ws m)
 exact_by s choices ws m b e =
-    let w = answered_behind (bound_verdict s choices ws m) (block_report s choices ws) (sym e) in
+    let w = value_answered _ _ e in
     let v = passed_both (accept_verdict s choices ws) (first_refusal (memory_checks (wide_job s choices) (block_capacity s choices ws) m)) w.0 in
     rw w.1 (bound_held (block_job s choices) (weight_in ws) (accepted_in_range s choices ws v.0))
 
 -- blocks that are read alike: answer and memory are the same
 module _ (ws : List ℕ) (old : Memory) where
-  abbrev answer_from : List Check → JobRecord → BoundAnswer
+  abbrev answer_from : List Check → JobRecord → Answer BoundReport
   answer_from checks j = answer_by (next (first_refusal (checks ++ weight_checks (job_of j) ws)) (first_refusal (memory_checks (widened (job_of j)) (capacity (job_of j) (weight_in ws)) old)))
       (bound_report (widened (job_of j)) (weight_in ws) (capacity (job_of j) (weight_in ws)))
 
@@ -85,11 +75,11 @@ module _ (ws : List ℕ) (old : Memory) where
 
 module _ (s : List ℕ) (choices : Choices) (ws : List ℕ) (old : Memory) where
   -- the answer and the memory give the rest
-  promised : {new : Memory} (r : BoundAnswer) → r ≡ bound_answer s choices ws old → BoundLeaves s choices ws old new → BoundPromises s choices ws old new r
+  promised : {new : Memory} (r : Answer BoundReport) → r ≡ bound_answer s choices ws old → BoundLeaves s choices ws old new → BoundPromises s choices ws old new r
   promised r e l =
       record {
         answers = e;
-        outcome = ap (λ x. bound_outcome x) e ∙ said_by (bound_verdict s choices ws old) (block_report s choices ws);
+        outcome = ap (λ x. bound_outcome x) e ∙ said_by bound_values (bound_verdict s choices ws old) (block_report s choices ws);
         memory = l;
         exact = λ b f. exact_by s choices ws old b (sym e ∙ f);
         recursion = recursion (wide_job s choices) (weight_in ws);
@@ -101,13 +91,13 @@ module _ (s : List ℕ) (choices : Choices) (ws : List ℕ) (old : Memory) where
       }
 
   -- the job or its weights are refused
-  pub early : (r : Refusal) → accept_verdict s choices ws ≡ Refused r → BoundPromises s choices ws old old (answer.Refused r)
-  early r v =
-      let p = refused_before (wide_job s choices) (weight_in ws) (block_capacity s choices ws) old (answer.Answered (block_report s choices ws)) answer.Refused v in
-      promised (answer.Refused r) p.0 p.1
+  pub early : {a : Answer Acceptance} {x : Refusal} {r : Answer BoundReport} → a ≡ acceptance_of s choices ws → a ≡ Err x → IsErrAnd r (λ y. y ≡ x) → BoundPromises s choices ws old old r
+  early {r = r} e f p =
+      let v = refused_both s choices ws e f in
+      promised r (refused_answer _ _ _ (before_refuses _ _ v) p) (rw v (record { lengths = refl; widths = refl; table = refl }))
 
   -- both are accepted
-  pub accepted : Accepted s choices ws → {new : Memory} {floors : List ℕ} (r : BoundAnswer) → Bounded (wide_job s choices) (weight_in ws) (block_capacity s choices ws) old new floors r
+  pub accepted : Accepted s choices ws → {new : Memory} {floors : List ℕ} (r : Answer BoundReport) → Bounded (wide_job s choices) (weight_in ws) (block_capacity s choices ws) old new floors r
       → BoundPromises s choices ws old new r
   accepted v {new} {floors} r b =
-      promised r (b.answer ∙ sym (ap (λ v. answer_by (next v (first_refusal (memory_checks (wide_job s choices) (block_capacity s choices ws) old))) (block_report s choices ws)) v)) (rw v b.memory)
+      promised r (b.answer ∙ sym (ap (λ v. answer_by v (block_report s choices ws)) (before_passes _ _ v))) (rw v b.memory)

@@ -1,5 +1,5 @@
 -- From the pieces back to the job: what is answered and left for the plain job of the array that lists a job's pieces is the job's own.
-use Rattle.bound.proofs.Prelude.{◌≡◌, refl, sym, ◌∙◌, ap, ap₂, subst, List, [], ◌∷◌, ℕ, ◌+◌, ◌*◌, arith, ltb, length, get_or, drop, Direction, Length, Width, floor, Job, InRange, widened, figure_of, normal_positions, InTableRange, size_in, price_in, listed_weight, pieces_job, PieceArray, listed_normal, listed_positions, listed_figure, listed_range, first_refusal, Checked, Passed, Refused, TableShort, position_count, position, words_needed, Figures, Kept, Mapped, Memory, list_check, list_after, TableAfter, memory_checks, answer_by, bound_report, BothMapped, Bounded, BoundAnswer}
+use Rattle.bound.proofs.Prelude.{◌≡◌, refl, sym, ◌∙◌, ap, ap₂, subst, List, [], ◌∷◌, ℕ, ◌+◌, ◌*◌, arith, ltb, length, get_or, drop, Direction, Length, Width, floor, Job, InRange, widened, figure_of, normal_positions, InTableRange, size_in, price_in, listed_weight, pieces_job, PieceArray, listed_normal, listed_positions, listed_figure, listed_range, first_refusal, TableShort, position_count, position, words_needed, Figures, Kept, Mapped, Memory, list_check, list_after, TableAfter, memory_checks, answer_by, bound_report, BothMapped, Bounded, Ok, Err, Checked, Answer, BoundReport}
 use Rattle.bound.proofs.Storage.{report_is}
 
 -- the plain job of the pieces of a job in range, the kerf added, is in the table's ranges
@@ -51,14 +51,14 @@ module _ (J : Job) (weight : ℕ → ℕ) (n : ℕ) (pieces : List ℕ) (array :
     lists = first_refusal (list_check J (length old.lengths) (length old.widths) ∷ [])
 
     same_table : (v : Checked) → TableAfter v N (listed_weight pieces) q old.table new.table → TableAfter v J weight q old.table new.table
-    same_table Passed t = (same_figures q new.table t.0, subst (λ k. Kept k old.table new.table) (same_words q) t.1)
-    same_table (Refused r) t = t
+    same_table (Ok _) t = (same_figures q new.table t.0, subst (λ k. Kept k old.table new.table) (same_words q) t.1)
+    same_table (Err r) t = t
 
     same_report : bound_report N (listed_weight pieces) q ≡ bound_report J weight q
     same_report = report_is (same_figure J.plate.0 J.plate.1 q) refl (same_count Length) (same_count Width)
 
     -- so is the whole answer
-    pub pieces_bounded : (floors : List ℕ) (r : BoundAnswer) → Bounded N (listed_weight pieces) q old new floors r → Bounded J weight q old new floors r
+    pub pieces_bounded : (floors : List ℕ) (r : Answer BoundReport) → Bounded N (listed_weight pieces) q old new floors r → Bounded J weight q old new floors r
     pieces_bounded floors r b = record {
       answer = b.answer ∙ ap₂ answer_by same_checks same_report;
       memory = record {

@@ -1,6 +1,5 @@
 -- What the proofs of this crate take from libraries and from other crates, named once.
 pub use Prim.Native.Nat.{◌*◌, ◌+◌, ◌-◌, ◌<◌, ◌≤◌, ℕ}
-pub use borrow.Author.Rules.{rules, scaled_Fits}
 pub use lib.Dec.{ltb}
 pub use lib.ListN.{drop, get_or, length}
 pub use mathlib.Core.List.{List, [], ◌++◌, ◌∷◌}
@@ -25,24 +24,23 @@ pub use Rattle.job.proofs.Kerf.{kerf_none_read}
 pub use Rattle.job.proofs.Taken.{Taken, refused_both, taken}
 pub use Rattle.job.proofs.Weights.{accepted_both, accepted_in_range, weights_passed}
 pub use Rattle.job.specs.Block.{ReadAlike, job_of}
-pub use Rattle.job.specs.Weights.{Accepted, block_job, weight_checks, weight_in}
-pub use Rattle.promises.specs.declared.BoundAnswer.{BoundAnswer}
+pub use Rattle.job.specs.Weights.{acceptance_of, Accepted, block_job, weight_checks, weight_in}
 pub use Rattle.promises.specs.declared.BoundReport.{BoundReport}
-pub use Rattle.promises.specs.declared.Checked.{Checked}
-pub use Rattle.promises.specs.declared.Checked.TheVariants.{Passed, Refused}
 pub use Rattle.promises.specs.declared.Choices.{Choices}
 pub use Rattle.promises.specs.declared.Direction.{Direction}
 pub use Rattle.promises.specs.declared.Direction.TheVariants.{Length, Width}
 pub use Rattle.promises.specs.declared.JobRecord.{JobRecord}
 pub use Rattle.promises.specs.declared.Refusal.{Refusal}
 pub use Rattle.promises.specs.declared.Refusal.TheVariants.{TableShort}
-pub use Rattle.refusal.specs.Refusals.{Check, by_check, first_refusal, next, outcome_by}
+pub use Rattle.refusal.specs.Refusals.{Check, first_refusal, next}
 pub use Rattle.storage.proofs.Filled.{fillable}
 pub use Rattle.storage.proofs.Storage.{last_laid, ready_laid, refused_laid}
 pub use Rattle.storage.specs.Clauses.{BothMapped, LaidOut}
-pub use Rattle.storage.specs.declared.Layout.TheVariants.{Ready}
+pub use Rattle.storage.specs.declared.Layout.{Layout}
 pub use Rattle.table.specs.Clauses.{FilledBy, Mapped, size_job}
 pub use Rattle.table.specs.Table.{Figures, Kept, position, position_count, words_needed}
-pub use Rattle.table.specs.declared.TableSize.{TableSize}
-pub use Rattle.bound.specs.Bound.{BoundHolds, BoundLeaves, BoundPromises, BoundSaid, Leaves, Memory, TableAfter, accept_verdict, answer_by, block_capacity, block_report, bound_answer, bound_outcome, bound_report, bound_verdict, lent, list_after, list_check, memory_checks, report_values, wide_job}
+pub use Rattle.bound.specs.Bound.{BoundHolds, BoundLeaves, BoundPromises, BoundSaid, Leaves, Memory, TableAfter, accept_verdict, answer_by, block_capacity, block_report, bound_answer, bound_outcome, bound_report, bound_verdict, lent, list_after, list_check, memory_checks, bound_values, wide_job}
 pub use Rattle.bound.specs.Clauses.{Boundable, Bounded, RecordBoundable}
+pub use Rattle.std.proofs.Common.{Ok, Err}
+pub use Rattle.promises.specs.Refusals.{Checked, Answer}
+pub use Rattle.job.specs.declared.Acceptance.{Acceptance}

@@ -1,23 +1,21 @@
 -- The bound call: its checks in the table's order, its answer with number and values, what it leaves in lists and table, and what the
 -- answered bound is.
 -- docs/SCOPE.md: The bound; Lent memory.
-use Rattle.std.specs.Prelude.{◌≡◌, false, List, [], ◌∷◌, ◌++◌, ℕ, ◌≤◌, length}
+use Rattle.std.specs.Prelude.{◌≡◌, false, List, [], ◌∷◌, ◌++◌, ℕ, ◌≤◌, length, Ok}
 use Rattle.promises.specs.declared.Direction.TheVariants.{Length, Width}
 use Rattle.cutting.specs.Limits.{most_figure}
 use Rattle.cutting.specs.Job.{Job, widened, capacity, at_full_demand, figure_of, bound_of, normal_positions}
 use Rattle.cutting.specs.Promises.{NoneAbove, NoneFiner, NoneHeavier, PlateHolds, FinerAmong, OfWeight, MostWithin, Recursion, NormalSums, FiguresMost, FloorFigures}
-use Rattle.refusal.specs.Refusals.{Check, Outcome, next, first_refusal, by_check, outcome_by}
-use Rattle.promises.specs.declared.Checked.{Checked}
+use Rattle.refusal.specs.Refusals.{Answer, Check, Checked, Outcome, next, first_refusal, by_check, outcome_by, outcome_of}
 use Rattle.promises.specs.declared.Choices.{Choices}
 use Rattle.job.specs.Block.{with_old_block, job_checks, KerfNone}
 use Rattle.job.specs.Weights.{block_job, weight_in, weight_checks, Accepted}
 use Rattle.table.specs.Table.{position_count, words_needed, Figures, Kept}
 pub use Rattle.storage.specs.Storage.{list_check, room_check, list_after}
 use Rattle.promises.specs.declared.BoundReport.{BoundReport}
-use Rattle.promises.specs.declared.BoundAnswer.{BoundAnswer}
-use Rattle.promises.specs.declared.BoundAnswer.TheVariants as answer
 pub use Rattle.promises.specs.Call.{Memory, lent}
-pub use Rattle.promises.specs.Calls.{bound_outcome}
+pub use Rattle.promises.specs.Calls.{bound_values}
+pub use Rattle.promises.specs.Refusals.{answer_by}
 
 -- The lists, the table and the figures are those of the job with the kerf added to every side, cut without loss: J is that job in the
 -- definitions up to `Leaves`.
@@ -32,10 +30,6 @@ storage_checks J q m n k = list_check J m n ∷ table_check J q k ∷ []
 -- what the bound call reports of a job, weights and a capacity: the bound, Q, p and r
 abbrev pub bound_report : Job → (ℕ → ℕ) → ℕ → BoundReport
 bound_report J weight q = record { bound = figure_of J weight J.plate.0 J.plate.1 q; capacity = q; length_count = position_count J Length; columns = position_count J Width }
-
--- the report, or the refusal
-abbrev pub answer_by : Checked → BoundReport → BoundAnswer
-answer_by v b = by_check v (answer.Answered b) answer.Refused
 
 -- the table after the call: the figures, and later words as they were; on a refusal all as it was
 abbrev pub TableAfter : Checked → Job → (ℕ → ℕ) → ℕ → List ℕ → List ℕ → Type 0
@@ -72,20 +66,20 @@ abbrev pub block_report : List ℕ → Choices → List ℕ → BoundReport
 block_report s choices ws = bound_report (wide_job s choices) (weight_in ws) (block_capacity s choices ws)
 
 -- what the bound call answers
-abbrev pub bound_answer : List ℕ → Choices → List ℕ → Memory → BoundAnswer
+abbrev pub bound_answer : List ℕ → Choices → List ℕ → Memory → Answer BoundReport
 bound_answer s choices ws m = answer_by (bound_verdict s choices ws m) (block_report s choices ws)
 
 -- what it leaves in lent memory
 abbrev pub BoundLeaves : List ℕ → Choices → List ℕ → Memory → Memory → Type 0
 BoundLeaves s choices ws old new = Leaves (accept_verdict s choices ws) (wide_job s choices) (weight_in ws) (block_capacity s choices ws) old new
 
--- a report's values: the bound, Q, p and r
-abbrev pub report_values : BoundReport → List ℕ
-report_values b = b.bound ∷ b.capacity ∷ b.length_count ∷ b.columns ∷ []
+-- an answer's number and values: the bound, Q, p and r
+abbrev pub bound_outcome : Answer BoundReport → Outcome
+bound_outcome r = outcome_of bound_values r
 
--- the number and values that the call answers
+-- those that the call answers
 abbrev pub bound_said : List ℕ → Choices → List ℕ → Memory → Outcome
-bound_said s choices ws m = outcome_by (bound_verdict s choices ws m) (report_values (block_report s choices ws))
+bound_said s choices ws m = outcome_by (bound_verdict s choices ws m) (bound_values (block_report s choices ws))
 
 -- what a bound n at the capacity q is: the most that a guillotine tree of weight at most q earns; no less than any tree of the job's kinds that
 -- keeps the demands earns, which weighs at most q; no less than any of these trees cut finer; at most 1,000,000,000,000; the recursion's figure,
@@ -109,14 +103,14 @@ abbrev pub BlockHolds : List ℕ → Choices → List ℕ → Type 0
 BlockHolds s choices ws = BoundHolds (block_job s choices) (weight_in ws) (block_capacity s choices ws) (bound_of (block_job s choices) (weight_in ws))
 
 -- what an answer says: its bound holds at its capacity
-abbrev pub BoundSaid : List ℕ → Choices → List ℕ → BoundAnswer → Type 0
-BoundSaid s choices ws r = (b : BoundReport) → r ≡ answer.Answered b → BoundHolds (block_job s choices) (weight_in ws) b.capacity b.bound
+abbrev pub BoundSaid : List ℕ → Choices → List ℕ → Answer BoundReport → Type 0
+BoundSaid s choices ws r = (b : BoundReport) → r ≡ Ok b → BoundHolds (block_job s choices) (weight_in ws) b.capacity b.bound
 
 -- what the bound call promises of its answer and of the memory that it is lent: both are the definitions', number and values too; an
 -- answered bound holds; with the kerf added to every side the figures follow the recursion and the normal positions are the sums. Where
 -- job and weights are accepted, whatever storage is lent: their bound holds, every figure is the most that a tree earns there, and a tabled
 -- figure is that of every rectangle whose largest normal sides it has. Kerf 0 in a new block answers and leaves what the old block does
-pub record BoundPromises (s : List ℕ) (choices : Choices) (ws : List ℕ) (old new : Memory) (r : BoundAnswer) : Type 0 where
+pub record BoundPromises (s : List ℕ) (choices : Choices) (ws : List ℕ) (old new : Memory) (r : Answer BoundReport) : Type 0 where
   pub answers : r ≡ bound_answer s choices ws old
   pub outcome : bound_outcome r ≡ bound_said s choices ws old
   pub memory : BoundLeaves s choices ws old new

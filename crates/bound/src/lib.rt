@@ -12,8 +12,9 @@ ghost use Rattle.table.specs.Clauses.{size_job, Fillable, FilledBy};
 ghost use Rattle.bound.specs.Clauses.{Boundable, Bounded, RecordBoundable, RecordBounded};
 
 use cutting::Sides;
+use job::Acceptance;
 use pieces::{list_pieces, plate_of};
-use promises::{BoundAnswer, BoundReport, Checked, Choices, JobRecord, Refusal};
+use promises::{BoundReport, Choices, JobRecord, Refusal};
 use storage::{Layout, lay_out};
 use table::TableSize;
 
@@ -31,9 +32,9 @@ pub fn fill_table(
 {
     if size.capacity == 0 {
         row_fill::fill(size, pieces, normal_lengths, normal_widths, floors, table);
-        return;
+    } else {
+        state_fill::fill_weighed(size, pieces, normal_lengths, normal_widths, floors, table);
     }
-    state_fill::fill_weighed(size, pieces, normal_lengths, normal_widths, floors, table);
 }
 
 // The bound of pieces on a plate at a capacity: refusals 19 and 20, then the lists, the floors of both sides, the table and the report. The
@@ -47,7 +48,7 @@ pub fn bound_of_pieces(
     widths: &mut [u16],
     floors: &mut [u16],
     table: &mut [u64],
-) -> BoundAnswer
+) -> Result<BoundReport, Refusal>
     requires { Boundable (pieces_job (rect_of plate) count pieces.now) q floors.old }
     ensures { Bounded (pieces_job (rect_of plate) count pieces.now) (listed_weight pieces.now) q
         (lent lengths.old widths.old table.old)
@@ -55,19 +56,16 @@ pub fn bound_of_pieces(
 {
     let cell = (q as u32) + 1;
     let room = table.len();
-    let layout = lay_out(plate, count, pieces, q, cell, lengths, widths, floors, room);
-    match layout {
-        Layout::Refused(r) => BoundAnswer::Refused(r),
-        Layout::Ready(size, words) => {
-            fill_table(size, pieces, &lengths[..], &widths[..], &floors[..], table);
-            BoundAnswer::Answered(BoundReport {
-                bound: table[words - 1],
-                capacity: q,
-                length_count: size.rows,
-                columns: size.columns,
-            })
-        }
-    }
+    let Layout { size, words } = lay_out(
+        plate, count, pieces, q, cell, lengths, widths, floors, room,
+    )?;
+    fill_table(size, pieces, &lengths[..], &widths[..], &floors[..], table);
+    Ok(BoundReport {
+        bound: table[words - 1],
+        capacity: q,
+        length_count: size.rows,
+        columns: size.columns,
+    })
 }
 
 // The bound of a job record in range and of its weights at a capacity: refusals 19 and 20, then the lists, the table and the report.
@@ -78,7 +76,7 @@ pub fn bound_of_record(
     lengths: &mut [u16],
     widths: &mut [u16],
     table: &mut [u64],
-) -> BoundAnswer
+) -> Result<BoundReport, Refusal>
     requires { RecordBoundable (job_of job) q weights.now }
     ensures { RecordBounded (widened (job_of job)) (weight_in weights.now) q
         (lent lengths.old widths.old table.old)
@@ -108,23 +106,12 @@ pub fn bound(
     lengths: &mut [u16],
     widths: &mut [u16],
     table: &mut [u64],
-) -> BoundAnswer
+) -> Result<BoundReport, Refusal>
     ensures { BoundPromises block.now choices weights.now (lent lengths.old widths.old table.old)
         (lent lengths.new widths.new table.new) result }
 {
-    let accepted = job::accept(block, choices, weights);
-    let verdict = accepted.verdict;
-    if let Checked::Refused(r) = verdict {
-        return BoundAnswer::Refused(r);
-    }
-    bound_of_record(
-        accepted.job,
-        weights,
-        accepted.capacity,
-        lengths,
-        widths,
-        table,
-    )
+    let Acceptance { job, capacity } = job::accept(block, choices, weights)?;
+    bound_of_record(job, weights, capacity, lengths, widths, table)
 }
 
 // The same with the capacity of the full demands, whatever the choices say of it: demand times weight over all kinds.
@@ -135,7 +122,7 @@ pub fn bound_full_demand(
     lengths: &mut [u16],
     widths: &mut [u16],
     table: &mut [u64],
-) -> BoundAnswer
+) -> Result<BoundReport, Refusal>
     ensures { BoundPromises block.now (with_full_demand choices) weights.now (lent lengths.old widths.old table.old)
         (lent lengths.new widths.new table.new) result }
 {

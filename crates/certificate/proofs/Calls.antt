@@ -1,78 +1,68 @@
 -- What certify promises, from the verdicts of the job, the weights and the plan and from the bound of an accepted job.
-use Rattle.certificate.proofs.Prelude.{◌≡◌, refl, sym, ◌∙◌, ap, ap₂, List, ℕ, ◌≤◌, arith, bound_of, next, first_refusal, Refusal, Checked, Passed, Refused, Choices, JobRecord, JobAnswer, WeightsAnswer, read_of, job_of, block_job, weight_in, weights_answer, answered, refused, refusal_answered, accepted_both, Taken, both_by, PlanAnswer, plan_answer, Memory, Leaves, memory_checks, wide_job, block_capacity, block_report, accept_verdict, Bounded, answered_behind, refused_behind, BoundReport, BoundAnswer, plan_verdict, certify_verdict, certificate_of, compared, handed_on, certificate_outcome, weights_verdict, storage_verdict, CertifyPromises, Certificate}
-use Rattle.job.specs.declared.WeightsAnswer.TheVariants as weights
-use Rattle.promises.specs.declared.BoundAnswer.TheVariants as bound
-use Rattle.certificate.proofs.Comparison.{said_by, handed_before, handed_after, handed_whole}
-use Rattle.certificate.proofs.Promises.{drawn_most, compares, plans_judged, certificates_hold}
+use Rattle.certificate.proofs.Prelude.{◌≡◌, refl, sym, ◌∙◌, ap, ap₂, List, ℕ, ◌≤◌, arith, bound_of, first_refusal, Refusal, Choices, JobRecord, job_of, block_job, weight_in, acceptance_of, Acceptance, accepted_both, Taken, refused_both, plan_answer, Memory, Leaves, memory_checks, wide_job, block_capacity, block_report, Bounded, BoundReport, plan_verdict, certify_verdict, certificate_of, compared, plan_profit, certificate_outcome, CertifyPromises, Certificate, Ok, Err, passed, Checked, Answer, verdict_of, Report, value_answered, refusal_answered, refused_answer, given_answer, before_refuses, before_passes}
+use Rattle.std.specs.Result.{IsErrAnd}
+use Rattle.certificate.proofs.Comparison.{certificate_says}
+use Rattle.certificate.proofs.Promises.{drawn_most, profit_is, compares, plans_judged, certificates_hold}
 
 module _ (s : List ℕ) (choices : Choices) (ws kinds operands : List ℕ) (old : Memory) where
-  -- the certificate where no check refuses
-  abbrev unrefused : Certificate
-  unrefused = compared (plan_answer (block_job s choices) kinds operands).report.profit (bound_of (block_job s choices) (weight_in ws))
-
   -- the answer and the memory give the rest
-  promised : {new : Memory} (r : Certificate) → r ≡ certificate_of s choices ws kinds operands old → Leaves (plan_verdict s choices ws kinds operands) (wide_job s choices) (weight_in ws) (block_capacity s choices ws) old new
+  promised : {new : Memory} (r : Answer Certificate) → r ≡ certificate_of s choices ws kinds operands old → Leaves (plan_verdict s choices ws kinds operands) (wide_job s choices) (weight_in ws) (block_capacity s choices ws) old new
       → CertifyPromises s choices ws kinds operands old new r
   promised r e l =
       let hold = certificates_hold s choices ws kinds operands old in
       record {
         answers = e;
-        outcome = ap (λ x. certificate_outcome x) e ∙ said_by (certify_verdict s choices ws kinds operands old) _ _ (λ p. (compares s choices ws kinds operands old p).1);
+        outcome = ap (λ x. certificate_outcome x) e ∙ certificate_says (certify_verdict s choices ws kinds operands old) _ _ (λ p. (compares s choices ws kinds operands old p).1);
         memory = l;
         judged = plans_judged s choices kinds operands;
         best = λ n f. hold.0 n (sym e ∙ f);
         gap = λ n g f. hold.1 n g (sym e ∙ f);
       }
 
-  -- a refusal before the storage checks, handed on
-  early : {v : Checked} (r : Refusal) {c : Certificate} → plan_verdict s choices ws kinds operands ≡ Refused r → v ≡ Refused r → c ≡ handed_on v (compared 0 0) → CertifyPromises s choices ws kinds operands old old c
-  early r {c} e v h = promised c (handed_before (first_refusal (memory_checks (wide_job s choices) (block_capacity s choices ws) old)) unrefused e v h) (rw e (record { lengths = refl; widths = refl; table = refl }))
+  -- a refusal before the storage checks
+  early : {x : Refusal} {r : Answer Certificate} → plan_verdict s choices ws kinds operands ≡ Err x → IsErrAnd r (λ y. y ≡ x) → CertifyPromises s choices ws kinds operands old old r
+  early e p = promised _ (refused_answer _ _ _ (before_refuses _ _ e) p) (rw e (record { lengths = refl; widths = refl; table = refl }))
 
-  -- the plan's verdict after that of job and weights
-  after : {v : Checked} → accept_verdict s choices ws ≡ v → plan_verdict s choices ws kinds operands ≡ next v (plan_answer (block_job s choices) kinds operands).verdict
-  after e = ap (λ v. next v (plan_answer (block_job s choices) kinds operands).verdict) e
+  -- the job or its weights are refused
+  pub unaccepted : {a : Answer Acceptance} {x : Refusal} {r : Answer Certificate} → a ≡ acceptance_of s choices ws → a ≡ Err x → IsErrAnd r (λ y. y ≡ x) → CertifyPromises s choices ws kinds operands old old r
+  unaccepted e f p = early (before_refuses _ _ (refused_both s choices ws e f)) p
 
-  module _ {a : JobAnswer} (read : a ≡ read_of s choices) where
-    pub job_refused : (r : Refusal) {c : Certificate} → a.verdict ≡ Refused r → c ≡ handed_on a.verdict (compared 0 0) → CertifyPromises s choices ws kinds operands old old c
-    job_refused r p h = early r (after (both_by s choices ws (refused s choices read p) refl)) p h
+  module _ {j : JobRecord} {q : ℕ} (t : Taken s choices ws j q) {a : Answer Report} (said : a ≡ plan_answer (job_of j) kinds operands) where
+    said_is : a ≡ plan_answer (block_job s choices) kinds operands
+    said_is = said ∙ ap (λ j. plan_answer (job_of j) kinds operands) t.record_is
 
-    pub weights_refused : {w : WeightsAnswer} {v : Checked} (r : Refusal) {c : Certificate} → a.verdict ≡ Passed → w ≡ weights_answer (job_of a.job) ws → w ≡ weights.Refused r → v ≡ weights_verdict w
-        → c ≡ handed_on v (compared 0 0) → CertifyPromises s choices ws kinds operands old old c
-    weights_refused r p f g u h =
-        let j = answered s choices read p in
-        let k = refusal_answered (block_job s choices) ws r (sym (f ∙ ap (λ j. weights_answer (job_of j) ws) j.1) ∙ g) in
-        early r (after (both_by s choices ws j.0 k)) (u ∙ ap (λ w. weights_verdict w) g) h
+    walked : plan_verdict s choices ws kinds operands ≡ verdict_of a
+    walked = before_passes _ _ t.accepted ∙ ap verdict_of (sym said_is)
 
-  module _ {j : JobRecord} {q : ℕ} (t : Taken s choices ws j q) {a : PlanAnswer} (drawn : a ≡ plan_answer (job_of j) kinds operands) where
-    drawn_is : a ≡ plan_answer (block_job s choices) kinds operands
-    drawn_is = drawn ∙ ap (λ j. plan_answer (job_of j) kinds operands) t.record_is
+    -- the plan is refused
+    pub plan_refused : {x : Refusal} {r : Answer Certificate} → a ≡ Err x → IsErrAnd r (λ y. y ≡ x) → CertifyPromises s choices ws kinds operands old old r
+    plan_refused f p = early (walked ∙ ap verdict_of f) p
 
-    walked : plan_verdict s choices ws kinds operands ≡ a.verdict
-    walked = after t.accepted ∙ sym (ap (λ (x : PlanAnswer). x.verdict) drawn_is)
+    module _ {report : Report} (f : a ≡ Ok report) {new : Memory} {floors : List ℕ} {found : Answer BoundReport} (whole : Bounded (wide_job s choices) (weight_in ws) (block_capacity s choices ws) old new floors found) where
+      abbrev stored : Checked
+      stored = first_refusal (memory_checks (wide_job s choices) (block_capacity s choices ws) old)
 
-    pub plan_refused : (r : Refusal) {c : Certificate} → a.verdict ≡ Refused r → c ≡ handed_on a.verdict (compared 0 0) → CertifyPromises s choices ws kinds operands old old c
-    plan_refused r p h = early r (walked ∙ p) p h
-
-    module _ (passed : a.verdict ≡ Passed) {new : Memory} {floors : List ℕ} {found : BoundAnswer} (whole : Bounded (wide_job s choices) (weight_in ws) (block_capacity s choices ws) old new floors found) where
       left : Leaves (plan_verdict s choices ws kinds operands) (wide_job s choices) (weight_in ws) (block_capacity s choices ws) old new
-      left = rw (walked ∙ passed) whole.memory
+      left = rw (walked ∙ ap verdict_of f) whole.memory
 
-      pub storage_refused : {v : Checked} (r : Refusal) {c : Certificate} → found ≡ bound.Refused r → v ≡ storage_verdict found → c ≡ handed_on v (compared 0 0) → CertifyPromises s choices ws kinds operands old new c
-      storage_refused r {c} e u h = promised c (handed_after _ unrefused (walked ∙ passed) (refused_behind _ (block_report s choices ws) (sym e ∙ whole.answer)) e u h) left
+      storage_decides : certify_verdict s choices ws kinds operands old ≡ stored
+      storage_decides = before_passes _ _ (walked ∙ ap verdict_of f)
 
-      module _ (x : BoundReport) (e : found ≡ bound.Answered x) where
-        -- the report behind a bound that was answered
-        reported : (first_refusal (memory_checks (wide_job s choices) (block_capacity s choices ws) old) ≡ Passed) × (x.bound ≡ bound_of (block_job s choices) (weight_in ws))
-        reported = let v = answered_behind _ (block_report s choices ws) (sym e ∙ whole.answer) in (v.0, ap (λ (y : BoundReport). y.bound) v.1)
+      -- the storage is refused
+      pub storage_refused : {x : Refusal} {r : Answer Certificate} → found ≡ Err x → IsErrAnd r (λ y. y ≡ x) → CertifyPromises s choices ws kinds operands old new r
+      storage_refused e p = promised _ (refused_answer _ _ _ (storage_decides ∙ refusal_answered stored _ (sym whole.answer ∙ e)) p) left
 
-        pub certified : {c : Certificate} → c ≡ compared a.report.profit x.bound → CertifyPromises s choices ws kinds operands old new c
-        certified {c} h = promised c (handed_whole _ unrefused (walked ∙ passed) reported.0 (h ∙ ap₂ compared (ap (λ (x : PlanAnswer). x.report.profit) drawn_is) reported.1)) left
+      module _ {x : BoundReport} (e : found ≡ Ok x) where
+        -- the report behind a bound that was answered, and the plan's
+        reported : (stored ≡ passed) × (x.bound ≡ bound_of (block_job s choices) (weight_in ws))
+        reported = let v = value_answered stored (block_report s choices ws) (sym whole.answer ∙ e) in (v.0, ap (λ (y : BoundReport). y.bound) v.1)
+
+        earned : report.profit ≡ plan_profit (block_job s choices) kinds operands
+        earned = profit_is s choices kinds operands (accepted_both s choices ws t.accepted).0 (sym said_is ∙ f)
+
+        pub certified : {c : Certificate} → c ≡ compared report.profit x.bound → CertifyPromises s choices ws kinds operands old new (Ok c)
+        certified h = promised _ (given_answer _ _ (storage_decides ∙ reported.0) (ap Ok (h ∙ ap₂ compared earned reported.1))) left
 
         -- the profit is at most the bound answered
-        pub profit_most : a.report.profit ≤ x.bound
-        profit_most = omega (
-          arith,
-          ap (λ (x : PlanAnswer). x.report.profit) drawn_is,
-          reported.1,
-          drawn_most s choices ws kinds operands (accepted_both s choices ws t.accepted).0 (sym (ap (λ (x : PlanAnswer). x.verdict) drawn_is) ∙ passed),
-        )
+        pub profit_most : report.profit ≤ x.bound
+        profit_most = omega (arith, earned, reported.1, drawn_most s choices kinds operands (accepted_both s choices ws t.accepted).0 (ap verdict_of (sym said_is ∙ f)) ws)

@@ -1,3 +1,2 @@
 pub mod Certificate
 pub mod Promises
-pub mod Clauses

@@ -4,7 +4,8 @@ pub use borrow.Author.Rules.{rules}
 pub use borrow.Author.Tests.{eqb-true}
 pub use lib.ListN.{get_or, length, length-set, set}
 pub use lib.Seq.{get_or-set_other, get_or-set_same}
-pub use mathlib.Core.Bool.{true}
+pub use mathlib.Core.Bool.{Bool, true, false, ◌&&◌}
+pub use lib.Dec.{eqb}
 pub use mathlib.Core.List.{List, [], ◌∷◌}
 pub use mathlib.Core.Path.{◌∙◌, ◌≡◌, ap, refl, subst, sym}
 pub use native.Mathlib.Decide.{dec_lt, ℕ_discrete}

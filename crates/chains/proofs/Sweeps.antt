@@ -1,18 +1,8 @@
 -- Sweeps over a part of the table, from the last entry down: one entry more, and two parts one after the other.
-use Rattle.chains.proofs.Prelude.{◌≡◌, refl, sym, subst, ◌∙◌, List, ℕ, ◌+◌, ◌-◌, ◌≤◌, ◌<◌, min, dec_lt, ℕ_discrete, arith, length, set, length-set, get_or-set_same, get_or-set_other, most_entry, entry, stepped, Steps, Passed, Settled, Swept, Unmoved}
+use Rattle.chains.proofs.Prelude.{◌≡◌, sym, ◌∙◌, List, ℕ, ◌+◌, ◌-◌, ◌≤◌, ◌<◌, min, dec_lt, ℕ_discrete, arith, length, set, length-set, get_or-set_same, get_or-set_other, most_entry, entry, stepped, Steps, Passed, Swept, Unmoved}
 
 module _ (old : List ℕ) (m t : ℕ) where
-  pub swept_start : (hi : ℕ) → Swept old m t hi hi old
-  swept_start hi = record { long = refl; below = λ s l. refl; inside = λ s l h. absurd (omega arith); past = λ s l. refl }
-
-  pub unmoved_start : (hi : ℕ) → Unmoved old m t hi hi
-  unmoved_start hi s l h = absurd (omega arith)
-
   module _ (hi k s : ℕ) (e : k ≡ s + 1) (top : k ≤ hi) {table : List ℕ} (h : Swept old m t k hi table) where
-    -- what is read there fits
-    pub fits : Steps old m t m t → (a : ℕ) → a < k → entry table a ≤ most_entry
-    fits w a l = omega (arith, h.below a l, w.entries_fit a)
-
     -- what is written there
     pub value : 1 ≤ m → m ≤ s → (x z : ℕ) → x ≡ entry table (s - m) + t → z ≡ min x (entry table s) → z ≡ stepped m t m t (entry old) s
     unfolding stepped
@@ -86,23 +76,3 @@ module _ (old : List ℕ) (m t : ℕ) where
   -- a sweep over the whole table is a pass
   pub swept_all : {hi : ℕ} {new : List ℕ} → hi ≡ length old → Swept old m t 0 hi new → Passed old m t m t new
   swept_all e h = record { long = h.long; entries = λ s l. h.inside s (omega arith) (omega arith) }
-
-  pub unmoved_all : {hi : ℕ} → hi ≡ length old → Unmoved old m t 0 hi → Settled old m t m t
-  unmoved_all e w s l = w s (omega arith) (omega arith)
-
-  -- a table without an entry
-  pub passed_none : length old < 1 → Passed old m t m t old
-  passed_none h = record { long = refl; entries = λ s l. absurd (omega arith) }
-
-  pub settled_none : length old < 1 → Settled old m t m t
-  settled_none h s l = absurd (omega arith)
-
--- two ways that are one
-pub one_way : (table : List ℕ) (m t o u : ℕ) → Steps table m t o u → Steps table m t m t
-one_way table m t o u w = record { first = w.first; second = w.first; first_fits = w.first_fits; second_fits = w.first_fits; entries_fit = w.entries_fit }
-
-pub passed_two : (old new : List ℕ) (m t o u : ℕ) → m ≡ o → t ≡ u → Passed old m t m t new → Passed old m t o u new
-passed_two old new m t o u e f p = subst (λ y. Passed old m t o y new) f (subst (λ x. Passed old m t x t new) e p)
-
-pub settled_two : (old : List ℕ) (m t o u : ℕ) → m ≡ o → t ≡ u → Settled old m t m t → Settled old m t o u
-settled_two old m t o u e f p = subst (λ y. Settled old m t o y) f (subst (λ x. Settled old m t x t) e p)

@@ -1,7 +1,5 @@
 -- The choice from a filled table: the two searches over the table answer the definition's searches over figures of the job.
-use Rattle.choice.proofs.Prelude.{◌≡◌, refl, sym, ◌∙◌, ap, ap₂, Bool, true, false, ◌&&◌, Option, none, some, List, [], ◌∷◌, ◌++◌, map, map-map, map-append, ℕ, zero, suc, ◌+◌, ◌-◌, ◌*◌, ◌≤◌, ◌<◌, add-one, arith, eq-eqb, ne_eqb, eqb, length, get_or, take, drop, length-drop, length-map, ext_get_or, take_all, Direction, Length, Width, Node, Waste, Cut, range, filter, first, pairs, side, part, Piece, upright, or_waste, or_length, or_piece, or_zero, Job, figure_under, normal_side, normal_positions, normal_floor, pair_earns, first_pair, laid_earns, plan_choice, size_in, price_in, array_shares, through, mem_range, mem_pairs, range_length, range_entry, first_cong, first_map, first_filter, pairs_filter, plain_first, between_length, between_entry, normal_zero, TableSize, position_count, position, Listed, Mapped, size_job, by_state, under, Cell, Chosen, Place, PieceFound, CutFound, piece_test, piece_found, pair_test, first_index, cut_found, or_width_cut, or_length_cut, length_search, width_search, cut_chosen, Searchable, Tabled, ChoiceInput, Inside, chosen_of, chosen_at}
-use Rattle.choice.specs.declared.PieceFound.TheVariants as piece
-use Rattle.choice.specs.declared.CutFound.TheVariants as found
+use Rattle.choice.proofs.Prelude.{◌≡◌, refl, sym, ◌∙◌, ap, ap₂, Bool, true, false, ◌&&◌, Maybe, none, some, List, [], ◌∷◌, ◌++◌, map, map-map, map-append, ℕ, zero, suc, ◌+◌, ◌-◌, ◌*◌, ◌≤◌, ◌<◌, add-one, arith, eq-eqb, ne_eqb, eqb, length, get_or, take, drop, length-drop, length-map, ext_get_or, take_all, Direction, Length, Width, Node, Waste, Cut, range, filter, first, pairs, side, part, Piece, upright, or_waste, or_length, or_piece, or_zero, Job, figure_under, normal_side, normal_positions, normal_floor, pair_earns, first_pair, laid_earns, plan_choice, size_in, price_in, array_shares, through, mem_range, mem_pairs, range_length, range_entry, first_cong, first_map, first_filter, pairs_filter, plain_first, between_length, between_entry, normal_zero, TableSize, position_count, position, Listed, Mapped, size_job, by_state, under, Cell, Chosen, Place, Option, None, Some, piece_test, piece_found, pair_test, first_index, cut_found, or_width_cut, or_length_cut, length_search, width_search, cut_chosen, Searchable, Tabled, ChoiceInput, Inside, chosen_of, chosen_at}
 use Rattle.choice.proofs.Rows.{shares_of, search_for, rect_figure, row_figure, mapped_figure, cell_figure, cell_there, cell_sizes, searchable}
 
 -- an entry of a mapped list
@@ -47,9 +45,9 @@ pair_figures J le own Length l w c u = refl
 pair_figures J le own Width l w c u = refl
 
 -- the answer as the searches give it: waste where the value is 0, or the piece, or a cut
-abbrev pub or_laid : PieceFound → Chosen → Chosen
-or_laid piece.Missing r = r
-or_laid (piece.Laid n) r = record { node = n; share = 0 }
+abbrev pub or_laid : Option Node → Chosen → Chosen
+or_laid None r = r
+or_laid (Some n) r = record { node = n; share = 0 }
 
 abbrev pub or_none : Bool → Chosen → Chosen
 or_none true r = record { node = Waste; share = 0 }
@@ -59,7 +57,7 @@ or_none false r = r
 abbrev pair_of : List ℕ → ℕ → ℕ × ℕ → ℕ × (ℕ × ℕ)
 pair_of positions c u = (get_or positions u.0 0, (u.1, c - u.1))
 
-searched : (pieces normal_lengths normal_widths : List ℕ) (c : ℕ) (z : Bool) (o : Option ℕ) (i j : Option (ℕ × ℕ)) {n : Option Piece} {p s : Option (ℕ × (ℕ × ℕ))}
+searched : (pieces normal_lengths normal_widths : List ℕ) (c : ℕ) (z : Bool) (o : Maybe ℕ) (i j : Maybe (ℕ × ℕ)) {n : Maybe Piece} {p s : Maybe (ℕ × (ℕ × ℕ))}
     → n ≡ through upright o → p ≡ through (pair_of normal_lengths c) i → s ≡ through (pair_of normal_widths c) j
     → chosen_of pieces (or_zero z (or_piece n (or_length p (or_waste s)))) ≡ or_none z (or_laid (piece_found pieces o) (or_length_cut (cut_found normal_lengths i) (or_width_cut (cut_found normal_widths j))))
 searched pieces normal_lengths normal_widths c true o i j d e f = refl
@@ -108,21 +106,18 @@ module _ {J : Job} {le : ℕ → ℕ → Bool} {own : ℕ → ℕ} {columns q : 
 exit_none : (z : Bool) (r : Chosen) → z ≡ true → or_none z r ≡ record { node = Waste; share = 0 }
 exit_none z r e = rw e refl
 
-module _ (z : Bool) (k : PieceFound) where
-  exit_piece : (r : Chosen) {n : Node} → z ≡ false → k ≡ piece.Laid n → or_none z (or_laid k r) ≡ record { node = n; share = 0 }
+module _ (z : Bool) (k : Option Node) where
+  exit_piece : (r : Chosen) {n : Node} → z ≡ false → k ≡ Some n → or_none z (or_laid k r) ≡ record { node = n; share = 0 }
   exit_piece r e f = rw (e, f) refl
 
-  exit_cut : (r : Chosen) → z ≡ false → k ≡ piece.Missing → or_none z (or_laid k r) ≡ r
+  exit_cut : (r : Chosen) → z ≡ false → k ≡ None → or_none z (or_laid k r) ≡ r
   exit_cut r e f = rw (e, f) refl
 
 -- and out of the search for a cut
-pub length_out : {f : CutFound} {x s : ℕ} (r : Chosen) → f ≡ found.At x s → record { node = Cut Length x; share = s } ≡ or_length_cut f r
-length_out r e = rw e refl
-
-pub width_out : {f g : CutFound} {x s : ℕ} → f ≡ found.Missing → g ≡ found.At x s → record { node = Cut Width x; share = s } ≡ or_length_cut f (or_width_cut g)
+pub width_out : {f g : Option (ℕ × ℕ)} {x s : ℕ} → f ≡ None → g ≡ Some (x, s) → record { node = Cut Width x; share = s } ≡ or_length_cut f (or_width_cut g)
 width_out e h = rw (e, h) refl
 
-pub waste_out : {f g : CutFound} → f ≡ found.Missing → g ≡ found.Missing → record { node = Waste; share = 0 } ≡ or_length_cut f (or_width_cut g)
+pub waste_out : {f g : Option (ℕ × ℕ)} → f ≡ None → g ≡ None → record { node = Waste; share = 0 } ≡ or_length_cut f (or_width_cut g)
 waste_out e h = rw (e, h) refl
 
 -- the searches that the choice makes at a cell of a value
@@ -134,7 +129,7 @@ module _ (le : ℕ → ℕ → Bool) (size : TableSize) (pieces normal_lengths n
   abbrev pub column_of : ℕ
   column_of = get_or (drop 1021 floors) cell.sides.width 0
 
-  abbrev pub piece_search : Option ℕ
+  abbrev pub piece_search : Maybe ℕ
   piece_search = first (piece_test le pieces cell value) (range 0 size.count)
 
   -- where the cell stands
@@ -198,9 +193,9 @@ module _ {size : TableSize} {blocks : List ℕ} {d : ℕ} {pieces normal_lengths
     none_chosen z = sym (exit_none _ _ (eq-eqb word_at 0 (sym word_is ∙ z))) ∙ answer_choice
 
     module _ (z : value ≡ 0 → ⊥) where
-      pub piece_chosen : {n : Node} → piece_found pieces (piece_search le size pieces normal_lengths normal_widths floors table cell value) ≡ piece.Laid n → record { node = n; share = 0 } ≡ chosen_at le size pieces cell
+      pub piece_chosen : {n : Node} → piece_found pieces (piece_search le size pieces normal_lengths normal_widths floors table cell value) ≡ Some n → record { node = n; share = 0 } ≡ chosen_at le size pieces cell
       piece_chosen k = sym (exit_piece _ _ _ (ne_eqb value 0 z) k) ∙ ap (λ v. answer le size pieces normal_lengths normal_widths floors table cell v) word_is ∙ answer_choice
 
-      pub cut_taken : {r : Chosen} → piece_found pieces (piece_search le size pieces normal_lengths normal_widths floors table cell value) ≡ piece.Missing
+      pub cut_taken : {r : Chosen} → piece_found pieces (piece_search le size pieces normal_lengths normal_widths floors table cell value) ≡ None
           → r ≡ cut_chosen le normal_lengths normal_widths floors table size cell (record { a = a; b = b; value = value }) → r ≡ chosen_at le size pieces cell
       cut_taken k c = rw (e, f) at c ∙ sym (exit_cut _ _ _ (ne_eqb value 0 z) k) ∙ ap (λ v. answer le size pieces normal_lengths normal_widths floors table cell v) word_is ∙ answer_choice

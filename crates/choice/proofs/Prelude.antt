@@ -1,13 +1,13 @@
 -- What the proofs of this crate take from libraries and from other crates, named once.
-pub use Prim.Native.Nat.{◌%◌, ◌*◌, ◌+◌, ◌-◌, ◌<◌, ◌≤◌, suc, zero, ℕ}
-pub use borrow.Author.Rules.{rules}
-pub use borrow.Author.Tests.{eq-eqb, le-leb, lt-leb, ne_eqb}
+pub use Prim.Native.Nat.{◌*◌, ◌+◌, ◌-◌, ◌<◌, ◌≤◌, suc, zero, ℕ}
+pub use borrow.Author.Tests.{eq-eqb, ne_eqb}
 pub use lib.Dec.{eqb}
 pub use lib.ListN.{drop, get_or, length, length-drop, length-map, take}
 pub use lib.Seq.{ext_get_or, get_or-drop, take_all}
 pub use mathlib.Core.Bool.{Bool, ◌&&◌, false, true}
 pub use mathlib.Core.List.{List, [], ◌++◌, ◌∷◌, map, map-append, map-map}
-pub use mathlib.Core.Option.{Option, none, some}
+pub use mathlib.Core.Option.{Option as Maybe, none, some}
+pub use Rattle.std.specs.Prelude.{Option, None, Some}
 pub use mathlib.Core.Path.{◌∙◌, ◌≡◌, ap, ap₂, refl, sym}
 pub use native.Mathlib.Nat.{mul-le-mul, mul-le-mul_right}
 pub use native.Mathlib.Numerals.{add-one}
@@ -43,9 +43,5 @@ pub use Rattle.choice.specs.Search.{Numbered, Row, Searchable, cut_chosen, cut_f
 unfoldable pub use Rattle.choice.specs.Search.{first_index}
 pub use Rattle.choice.specs.declared.Cell.{Cell}
 pub use Rattle.choice.specs.declared.Chosen.{Chosen}
-pub use Rattle.choice.specs.declared.CutFound.{CutFound}
-pub use Rattle.choice.specs.declared.CutFound.TheVariants.{Missing}
 pub use Rattle.choice.specs.declared.CutSearch.{CutSearch}
-pub use Rattle.choice.specs.declared.PieceFound.{PieceFound}
-pub use Rattle.choice.specs.declared.PieceFound.TheVariants.{Laid}
 pub use Rattle.choice.specs.declared.Place.{Place}

@@ -1,5 +1,5 @@
 -- Searches step by step: what is left of a search over a run of numbers, and of one over pairs, after the members tried so far failed.
-use Rattle.choice.proofs.Prelude.{◌≡◌, refl, ◌∙◌, ap, Bool, true, false, ◌&&◌, Option, none, some, List, [], ◌∷◌, ◌++◌, map, ℕ, suc, ◌+◌, ◌-◌, ◌*◌, ◌≤◌, ◌<◌, add-one, arith, eqb, length, get_or, most_wide_figure, range, first, pairs, CutSearch, pair_test, Row, Searchable}
+use Rattle.choice.proofs.Prelude.{◌≡◌, refl, ◌∙◌, ap, Bool, true, false, ◌&&◌, Maybe, none, some, List, [], ◌∷◌, ◌++◌, map, ℕ, suc, ◌+◌, ◌-◌, ◌*◌, ◌≤◌, ◌<◌, add-one, arith, eqb, length, get_or, most_wide_figure, range, first, pairs, CutSearch, pair_test, Row, Searchable}
 
 -- a run of numbers from i to n, and what is left of it
 pub run_more : (i n : ℕ) → i < n → range i (n - i) ≡ i ∷ range (i + 1) (n - (i + 1))
@@ -25,11 +25,8 @@ module _ {A : Type 0} (f : A → Bool) where
   first_empty = refl
 
 -- what is left of a search over the numbers below n, from i on
-abbrev pub left : (ℕ → Bool) → ℕ → ℕ → Option ℕ
+abbrev pub left : (ℕ → Bool) → ℕ → ℕ → Maybe ℕ
 left f n i = first f (range i (n - i))
-
-pub left_start : (f : ℕ → Bool) (n : ℕ) → first f (range 0 n) ≡ left f n 0
-left_start f n = let e : n - 0 ≡ n = omega arith in rw e refl
 
 module _ (f : ℕ → Bool) (n i : ℕ) where
   pub left_fails : i < n → f i ≡ false → left f n i ≡ left f n (i + 1)
@@ -42,10 +39,10 @@ module _ (f : ℕ → Bool) (n i : ℕ) where
   left_end h = ap (first f) (run_end i n h) ∙ first_empty f
 
 -- what is left of a search over pairs below m and n: from row i on, and from the k-th pair of row i on
-abbrev pub rows_left : (ℕ × ℕ → Bool) → ℕ → ℕ → ℕ → Option (ℕ × ℕ)
+abbrev pub rows_left : (ℕ × ℕ → Bool) → ℕ → ℕ → ℕ → Maybe (ℕ × ℕ)
 rows_left f m n i = first f (pairs (range i (m - i)) (range 0 n))
 
-abbrev pub row_left : (ℕ × ℕ → Bool) → ℕ → ℕ → ℕ → ℕ → Option (ℕ × ℕ)
+abbrev pub row_left : (ℕ × ℕ → Bool) → ℕ → ℕ → ℕ → ℕ → Maybe (ℕ × ℕ)
 row_left f m n i k = first f (map (λ y. (i, y)) (range k (n - k)) ++ pairs (range (i + 1) (m - (i + 1))) (range 0 n))
 
 module _ (f : ℕ × ℕ → Bool) (m n i : ℕ) where

@@ -1,7 +1,7 @@
 -- What the inner contracts of the choice's two searches cite: the lowest-numbered piece that earns a value and the node that lays it, and
 -- the first pair of position and share whose two words of the table sum to it.
-use Rattle.std.specs.Prelude.{Bool, true, false, ◌&&◌, List, ℕ, ◌+◌, ◌-◌, ◌*◌, ◌/◌, ◌%◌, ◌≤◌, ◌<◌, eqb, length, get_or, drop}
-use Rattle.std.proofs.Math.Option.{Option, none, some}
+use Rattle.std.specs.Prelude.{Bool, true, false, ◌&&◌, List, ℕ, ◌+◌, ◌-◌, ◌*◌, ◌/◌, ◌%◌, ◌≤◌, ◌<◌, eqb, length, get_or, drop, Option, None, Some}
+use Rattle.std.proofs.Math.Option as maybe
 use Rattle.promises.specs.declared.Direction.TheVariants.{Length, Width}
 use Rattle.promises.specs.declared.Node.{Node}
 use Rattle.promises.specs.declared.Node.TheVariants.{Waste, Piece, Turned, Cut}
@@ -16,10 +16,6 @@ use Rattle.choice.specs.declared.Cell.{Cell}
 use Rattle.choice.specs.declared.Place.{Place}
 use Rattle.choice.specs.declared.CutSearch.{CutSearch}
 use Rattle.choice.specs.declared.Chosen.{Chosen}
-use Rattle.choice.specs.declared.PieceFound.{PieceFound}
-use Rattle.choice.specs.declared.PieceFound.TheVariants as piece
-use Rattle.choice.specs.declared.CutFound.{CutFound}
-use Rattle.choice.specs.declared.CutFound.TheVariants as cut
 
 -- the node that lays a kind, upright or turned
 abbrev pub node_way : Bool → ℕ → Node
@@ -39,9 +35,9 @@ abbrev pub piece_test : (ℕ → ℕ → Bool) → List ℕ → Cell → ℕ →
 piece_test le pieces cell value j = (fits_in (size_in pieces j) (rect_of cell.sides) && le (listed_weight pieces j) cell.share) && eqb (price_in pieces j) value
 
 -- the node of the piece that a search found
-abbrev pub piece_found : List ℕ → Option ℕ → PieceFound
-piece_found pieces none = piece.Missing
-piece_found pieces (some j) = piece.Laid (numbered_node (node_in pieces j))
+abbrev pub piece_found : List ℕ → maybe.Option ℕ → Option Node
+piece_found pieces maybe.none = None
+piece_found pieces (maybe.some j) = Some (numbered_node (node_in pieces j))
 
 -- so many pieces stand in the array, each with the number of a node
 pub record Numbered (count : ℕ) (pieces : List ℕ) : Type 0 where
@@ -55,23 +51,23 @@ pair_test le positions floors table cut u =
     eqb (get_or table (u.0 * cut.stride + cut.base + u.1) 0 + get_or table (get_or floors (cut.side - get_or positions u.0 0) 0 * cut.stride + cut.base + (cut.share - u.1)) 0) cut.value && le u.1 cut.share
 
 -- the first pair that earns the value: the positions from the first to the last but one rising, and for each the shares rising
-unfoldable pub first_index : (ℕ → ℕ → Bool) → List ℕ → List ℕ → List ℕ → CutSearch → Option (ℕ × ℕ)
+unfoldable pub first_index : (ℕ → ℕ → Bool) → List ℕ → List ℕ → List ℕ → CutSearch → maybe.Option (ℕ × ℕ)
 first_index le positions floors table cut = first (pair_test le positions floors table cut) (pairs (range 1 (cut.last - 1)) (range 0 (cut.share + 1)))
 
 -- the cut that a search found: its position and the first part's share
-abbrev pub cut_found : List ℕ → Option (ℕ × ℕ) → CutFound
-cut_found positions none = cut.Missing
-cut_found positions (some u) = cut.At (get_or positions u.0 0) u.1
+abbrev pub cut_found : List ℕ → maybe.Option (ℕ × ℕ) → Option (ℕ × ℕ)
+cut_found positions maybe.none = None
+cut_found positions (maybe.some u) = Some (get_or positions u.0 0, u.1)
 
 -- a width cut that was found, or waste
-abbrev pub or_width_cut : CutFound → Chosen
-or_width_cut cut.Missing = record { node = Waste; share = 0 }
-or_width_cut (cut.At x k) = record { node = Cut Width x; share = k }
+abbrev pub or_width_cut : Option (ℕ × ℕ) → Chosen
+or_width_cut None = record { node = Waste; share = 0 }
+or_width_cut (Some u) = record { node = Cut Width u.0; share = u.1 }
 
 -- a length cut that was found, or what follows
-abbrev pub or_length_cut : CutFound → Chosen → Chosen
-or_length_cut cut.Missing r = r
-or_length_cut (cut.At x k) r = record { node = Cut Length x; share = k }
+abbrev pub or_length_cut : Option (ℕ × ℕ) → Chosen → Chosen
+or_length_cut None r = r
+or_length_cut (Some u) r = record { node = Cut Length u.0; share = u.1 }
 
 -- the search for a length cut of a cell
 abbrev pub length_search : TableSize → Cell → Place → CutSearch

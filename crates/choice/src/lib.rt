@@ -31,20 +31,6 @@ pub struct Chosen {
     pub share: u16,
 }
 
-// What a search over the pieces found: the node that lays the piece.
-#[derive(Clone, Copy, Drop)]
-pub enum PieceFound {
-    Laid(Node),
-    Missing,
-}
-
-// What a search for a cut found: its position and the first part's share.
-#[derive(Clone, Copy, Drop)]
-pub enum CutFound {
-    At(u16, u16),
-    Missing,
-}
-
 // Where a cell stands in the table: the indexes of its tabled length and width, and its figure.
 #[derive(Clone, Copy, Drop)]
 struct Place {
@@ -63,23 +49,6 @@ struct CutSearch {
     pub base: usize,
     pub share: usize,
     pub value: u64,
-}
-
-// A number as an index.
-fn widen(n: u16) -> usize
-    ensures { (result ≡ n) × (result < 65536) }
-{
-    n as usize
-}
-
-// The choice of a node, and for a cut of the first part's share.
-fn choice_of(node: Node, share: u16) -> Chosen
-    ensures { result ≡ record { node = node; share = share } }
-{
-    Chosen {
-        node: node,
-        share: share,
-    }
 }
 
 // The node of a number: 2i lays kind i upright, and 2i + 1 lays it turned.
@@ -109,17 +78,13 @@ fn piece_earns(
     requires { Ordered blocks.now d }
     ensures { result ≡ ((fits_in (piece_length, piece_width) (rect_of cell.sides) && under blocks.now d state cell.share) && eqb price value) }
 {
-    if piece_length <= cell.sides.length as u32 {
-        if piece_width <= cell.sides.width as u32 {
-            if below(blocks, d, state as usize, cell.share as usize) {
-                return price as u64 == value;
-            }
-        }
-    }
-    false
+    piece_length <= cell.sides.length as u32
+        && piece_width <= cell.sides.width as u32
+        && below(blocks, d, state as usize, cell.share as usize)
+        && price as u64 == value
 }
 
-// The lowest-numbered piece that earns a value alone.
+// The node that lays the lowest-numbered piece that earns a value alone.
 fn find_piece(
     count: u16,
     pieces: &[u32; 640],
@@ -127,7 +92,7 @@ fn find_piece(
     d: usize,
     cell: Cell,
     value: u64,
-) -> PieceFound
+) -> Option<Node>
     requires { Numbered count pieces.now × Ordered blocks.now d }
     ensures { result ≡ piece_found pieces.now (first (piece_test (under blocks.now d) pieces.now cell value) (range 0 count)) }
 {
@@ -144,10 +109,10 @@ fn find_piece(
             value,
         );
         if earns {
-            return PieceFound::Laid(numbered_node(pieces[at + 4]));
+            return Some(numbered_node(pieces[at + 4]));
         }
     }
-    PieceFound::Missing
+    None
 }
 
 // Whether a sum is the value and share k is within share c.
@@ -155,13 +120,10 @@ fn pair_earns(blocks: &[u32], d: usize, k: usize, c: usize, sum: u64, value: u64
     requires { Ordered blocks.now d }
     ensures { result ≡ (eqb sum value && under blocks.now d k c) }
 {
-    if sum == value {
-        return below(blocks, d, k, c);
-    }
-    false
+    sum == value && below(blocks, d, k, c)
 }
 
-// The first pair of position and share that earns a value: positions rising, and for each the first part's share. The row of the i-th
+// The first pair of a cut's position and the first part's share that earns a value: positions rising, and for each the shares rising. The row of the i-th
 // position begins at word i * stride + base; the remainder's row is that of its floor.
 fn find_cut(
     positions: &[u16],
@@ -170,7 +132,7 @@ fn find_cut(
     blocks: &[u32],
     d: usize,
     cut: CutSearch,
-) -> CutFound
+) -> Option<(u16, u16)>
     requires { Searchable positions.now floors.now table.now cut × Ordered blocks.now d }
     ensures { result ≡ cut_found positions.now (first_index (under blocks.now d) positions.now floors.now table.now cut) }
 {
@@ -178,16 +140,16 @@ fn find_cut(
     let base = cut.base;
     let c = cut.share;
     let shares = c + 1;
-    let mut found = CutFound::Missing;
+    let mut found = None;
     'search: for i in 1..cut.last {
         let x = positions[i];
-        let rest = widen(floors[cut.side - widen(x)]);
+        let rest = floors[cut.side - x as usize] as usize;
         let first = i * stride + base;
         let second = rest * stride + base + c;
         for k in 0..shares {
             let sum = table[first + k] + table[second - k];
             if pair_earns(blocks, d, k, c, sum, cut.value) {
-                found = CutFound::At(x, k as u16);
+                found = Some((x, k as u16));
                 break 'search;
             }
         }
@@ -246,17 +208,24 @@ fn choose_cut(
     ensures { result ≡ cut_chosen (under blocks.now d) normal_lengths.now normal_widths.now floors.now table.now size cell place }
 {
     let along = length_search(size, cell, place);
-    let length_cut = find_cut(normal_lengths, floors, table, blocks, d, along);
-    if let CutFound::At(x, k) = length_cut {
-        return choice_of(Node::Cut(Direction::Length, x), k);
+    if let Some((x, share)) = find_cut(normal_lengths, floors, table, blocks, d, along) {
+        return Chosen {
+            node: Node::Cut(Direction::Length, x),
+            share,
+        };
     }
     let rest = &floors[1021..];
     let across = width_search(size, cell, place);
-    let width_cut = find_cut(normal_widths, rest, table, blocks, d, across);
-    if let CutFound::At(x, k) = width_cut {
-        return choice_of(Node::Cut(Direction::Width, x), k);
+    if let Some((x, share)) = find_cut(normal_widths, rest, table, blocks, d, across) {
+        return Chosen {
+            node: Node::Cut(Direction::Width, x),
+            share,
+        };
     }
-    choice_of(Node::Waste, 0)
+    Chosen {
+        node: Node::Waste,
+        share: 0,
+    }
 }
 
 // The choice at a cell: figure 0 gives waste; otherwise the lowest-numbered piece that earns the figure; otherwise a cut. The floors are
@@ -281,17 +250,15 @@ pub fn choose(
     let row = size.columns as usize * shares;
     let value = table[a * row + b * shares + cell.share as usize];
     if value == 0 {
-        return choice_of(Node::Waste, 0);
+        return Chosen {
+            node: Node::Waste,
+            share: 0,
+        };
     }
-    let alone = find_piece(size.count, pieces, blocks, d, cell, value);
-    if let PieceFound::Laid(node) = alone {
-        return choice_of(node, 0);
+    if let Some(node) = find_piece(size.count, pieces, blocks, d, cell, value) {
+        return Chosen { node, share: 0 };
     }
-    let place = Place {
-        a: a,
-        b: b,
-        value: value,
-    };
+    let place = Place { a, b, value };
     choose_cut(
         cell,
         place,

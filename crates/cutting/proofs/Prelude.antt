@@ -6,14 +6,7 @@ pub use lib.Dec.{T, T_not, eqb, eqb_refl, eqb→eq, leb, leb→le, le→leb, ltb
 pub use lib.ListN.{drop, get_or, length, length-append, length-drop, take}
 pub use lib.Seq.{get_or-drop, get_or-take, length-take-le, sets, sets-eq}
 pub use mathlib.Core.Bool.{Bool, ◌&&◌, ◌||◌, false, not, true}
-pub use mathlib.Core.List.Memᴰ.{append_cases as List·Memᴰ·append-cases}
-pub use mathlib.Core.List.Memᴰ.{append_left as Memᴰ·append-left}
-pub use mathlib.Core.List.Memᴰ.{append_right as Memᴰ·append-right}
-pub use mathlib.Core.List.Memᴰ.{cases_cons as List·Memᴰ·cases-cons}
-pub use mathlib.Core.List.Memᴰ.{cast as Memᴰ·cast}
-pub use mathlib.Core.List.Memᴰ.{head as List·Memᴰ·head}
-pub use mathlib.Core.List.Memᴰ.{not-nil as List·Memᴰ·not-nil}
-pub use mathlib.Core.List.Memᴰ.{tail as List·Memᴰ·tail}
+pub use mathlib.Core.List.Memᴰ.{append_cases as List·Memᴰ·append-cases, append_left as Memᴰ·append-left, append_right as Memᴰ·append-right, cases_cons as List·Memᴰ·cases-cons, cast as Memᴰ·cast, head as List·Memᴰ·head, not-nil as List·Memᴰ·not-nil, tail as List·Memᴰ·tail}
 pub use mathlib.Core.List.{List, Memᴰ as List-as-Memᴰ, [], ◌++◌, ◌∷◌, append_assoc, map}
 pub use mathlib.Core.Logic.{◌↔◌, ◌≢◌, ◌⊎◌, inl, inr, ⊎_elim}
 pub use mathlib.Core.Option.{Option, none, some}

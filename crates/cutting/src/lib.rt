@@ -20,10 +20,8 @@ pub fn kind_number(node: Node) -> u8
         Node::Waste => 0,
         Node::Piece(_) => 1,
         Node::Turned(_) => 4,
-        Node::Cut(d, _) => match d {
-            Direction::Length => 2,
-            Direction::Width => 3,
-        },
+        Node::Cut(Direction::Length, _) => 2,
+        Node::Cut(Direction::Width, _) => 3,
     }
 }
 
@@ -33,8 +31,7 @@ pub fn operand(node: Node) -> u16
 {
     match node {
         Node::Waste => 0,
-        Node::Piece(i) => i,
-        Node::Turned(i) => i,
+        Node::Piece(i) | Node::Turned(i) => i,
         Node::Cut(_, x) => x,
     }
 }
@@ -71,11 +68,7 @@ pub fn widen(sides: Sides, kerf: u16) -> Sides
 pub fn fits(piece: Sides, room: Sides) -> bool
     ensures { result ≡ fits_in (rect_of piece) (rect_of room) }
 {
-    if piece.length <= room.length {
-        piece.width <= room.width
-    } else {
-        false
-    }
+    piece.length <= room.length && piece.width <= room.width
 }
 
 // The side that a cut divides.
@@ -93,14 +86,8 @@ pub fn first_part(d: Direction, x: u16, whole: Sides) -> Sides
     ensures { result ≡ sides_of (part d x (rect_of whole)) }
 {
     match d {
-        Direction::Length => Sides {
-            length: x,
-            width: whole.width,
-        },
-        Direction::Width => Sides {
-            length: whole.length,
-            width: x,
-        },
+        Direction::Length => Sides { length: x, ..whole },
+        Direction::Width => Sides { width: x, ..whole },
     }
 }
 

@@ -17,9 +17,10 @@ fn pair_field(t: &Words, j: usize) -> usize {
 fn kind_field(t: &Words, j: usize) -> usize {
     let sizes = times(2, word(t, KINDS, 0));
     if j < sizes {
-        return kind_side(t, j % 2, j / 2);
+        kind_side(t, j % 2, j / 2)
+    } else {
+        pair_field(t, minus(j, sizes))
     }
-    pair_field(t, minus(j, sizes))
 }
 
 // How many fields the header has: plate length and width, number of kinds and, but in an old block, the kerf.
@@ -30,9 +31,10 @@ fn header_fields(t: &Words) -> usize {
 fn field(t: &Words, j: usize) -> usize {
     let header = header_fields(t);
     if j < header {
-        return word(t, PLATE, j);
+        word(t, PLATE, j)
+    } else {
+        kind_field(t, minus(j, header))
     }
-    kind_field(t, minus(j, header))
 }
 
 // The j-th field, lowest byte first.
@@ -59,7 +61,7 @@ fn put_grains(t: &mut Words, before: usize, n: usize) {
 // Writes the job block, old or new, and how many weights there are.
 pub fn write_block(t: &mut Words, old: bool) {
     let n = word(t, KINDS, 0);
-    put(t, OLD_BLOCK, 0, old as usize);
+    put(t, OLD_BLOCK, 0, usize::from(old));
     put(t, WEIGHTS, 0, n);
     let fields = plus(header_fields(t), times(5, n));
     let grains = times(word(t, GRAIN, 0), n);

@@ -3,7 +3,7 @@
 // The rectangles are those that the saw leaves: a cut at x of a side n leaves x and n - x - k, k the kerf, both at least 1.
 use crate::job::{FIGURES, KERF, KINDS, PLATE, PRICE, fits, may_turn, shares, widths};
 use crate::shares::{admits, divides};
-use test_tools::{Words, larger, minus, plus, times, word};
+use test_tools::{Words, minus, plus, times, word};
 
 // Where the shares of a rectangle begin.
 pub fn cell(t: &Words, l: usize, w: usize) -> usize {
@@ -12,50 +12,41 @@ pub fn cell(t: &Words, l: usize, w: usize) -> usize {
 
 // Whether a kind lies in a rectangle: upright, or turned where it may be.
 fn lies_within(t: &Words, i: usize, l: usize, w: usize) -> bool {
-    if fits(t, i, l, w) {
-        return true;
-    }
-    if may_turn(t, i) {
-        return fits(t, i, w, l);
-    }
-    false
+    fits(t, i, l, w) || may_turn(t, i) && fits(t, i, w, l)
 }
 
 // The price of a kind where it lies in the rectangle and the share admits it, and else 0.
 fn price_within(t: &Words, i: usize, l: usize, w: usize, c: usize) -> usize {
-    if !lies_within(t, i, l, w) {
-        return 0;
+    if lies_within(t, i, l, w) && admits(t, i, c) {
+        word(t, PRICE, i)
+    } else {
+        0
     }
-    if admits(t, i, c) {
-        return word(t, PRICE, i);
-    }
-    0
 }
 
 // The most that one piece earns.
 pub fn best_kind(t: &Words, l: usize, w: usize, c: usize) -> usize {
-    let mut best: usize = 0;
-    for i in 0..word(t, KINDS, 0) {
-        best = larger(best, price_within(t, i, l, w, c));
-    }
-    best
+    (0..word(t, KINDS, 0))
+        .map(|i| price_within(t, i, l, w, c))
+        .max()
+        .unwrap_or(0)
 }
 
 // What the cells of two parts earn together where the first takes s of the share c, if it may, and else 0.
 fn division(t: &Words, first: usize, second: usize, c: usize, s: usize) -> usize {
     if divides(t, s, c) {
-        return plus(word(t, first, s), word(t, second, minus(c, s)));
+        plus(word(t, first, s), word(t, second, minus(c, s)))
+    } else {
+        0
     }
-    0
 }
 
 // The most that they earn together, over every division of the share.
 fn best_division(t: &Words, first: usize, second: usize, c: usize) -> usize {
-    let mut best: usize = 0;
-    for s in 0..plus(c, 1) {
-        best = larger(best, division(t, first, second, c, s));
-    }
-    best
+    (0..plus(c, 1))
+        .map(|s| division(t, first, second, c, s))
+        .max()
+        .unwrap_or(0)
 }
 
 // The most that a cut of a side earns, the two parts taking what the blade leaves. The cell of a part of size x begins x strides after
@@ -63,11 +54,10 @@ fn best_division(t: &Words, first: usize, second: usize, c: usize) -> usize {
 fn best_cut(t: &Words, first: usize, stride: usize, side: usize, c: usize) -> usize {
     let both = minus(side, word(t, KERF, 0));
     let mut best: usize = 0;
-    for i in 0..minus(both, 1) {
-        let x = plus(i, 1);
+    for x in 1..both {
         let one = plus(first, times(stride, x));
         let other = plus(first, times(stride, minus(both, x)));
-        best = larger(best, best_division(t, one, other, c));
+        best = best.max(best_division(t, one, other, c));
     }
     best
 }
@@ -84,11 +74,9 @@ pub fn best_width_cut(t: &Words, block: usize, l: usize, w: usize, c: usize) -> 
 }
 
 pub fn figure(t: &Words, l: usize, w: usize, c: usize) -> usize {
-    let cut = larger(
-        best_length_cut(t, 0, l, w, c),
-        best_width_cut(t, 0, l, w, c),
-    );
-    larger(best_kind(t, l, w, c), cut)
+    best_kind(t, l, w, c)
+        .max(best_length_cut(t, 0, l, w, c))
+        .max(best_width_cut(t, 0, l, w, c))
 }
 
 // How many figures a block has, with one more length than the plate's.

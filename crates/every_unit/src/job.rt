@@ -111,21 +111,12 @@ pub fn grain_byte(t: &Words, i: usize) -> usize {
 
 // Whether a kind may be turned.
 pub fn may_turn(t: &Words, i: usize) -> bool {
-    if grain_byte(t, i) == 1 {
-        return false;
-    }
-    word(t, TURNING, 0) == 1
+    grain_byte(t, i) != 1 && word(t, TURNING, 0) == 1
 }
 
 // Whether a kind that is ordered lies upright in a rectangle. It lies turned in l by w where it lies upright in w by l.
 pub fn fits(t: &Words, i: usize, l: usize, w: usize) -> bool {
-    if word(t, DEMAND, i) == 0 {
-        return false;
-    }
-    if l < kind_side(t, 0, i) {
-        return false;
-    }
-    kind_side(t, 1, i) <= w
+    word(t, DEMAND, i) != 0 && kind_side(t, 0, i) <= l && kind_side(t, 1, i) <= w
 }
 
 // How many widths there are, counted from 0.
@@ -150,31 +141,30 @@ fn by_area(t: &Words, i: usize) -> usize {
 
 // Whether a kind that is ordered lies on the plate upright or turned.
 fn fits_plate(t: &Words, i: usize) -> bool {
-    if fits(t, i, word(t, PLATE, 0), word(t, PLATE, 1)) {
-        return true;
-    }
-    fits(t, i, word(t, PLATE, 1), word(t, PLATE, 0))
+    let l = word(t, PLATE, 0);
+    let w = word(t, PLATE, 1);
+    fits(t, i, l, w) || fits(t, i, w, l)
 }
 
 // The copies of a kind that can lie on the plate.
 fn held(t: &Words, i: usize) -> usize {
     if !may_turn(t, i) {
-        return by_sides(t, i);
+        by_sides(t, i)
+    } else if fits_plate(t, i) {
+        by_area(t, i)
+    } else {
+        0
     }
-    if fits_plate(t, i) {
-        return by_area(t, i);
-    }
-    0
 }
 
 // The copies of a kind that the capacity counts.
 fn counted(t: &Words, i: usize) -> usize {
     let demand = word(t, DEMAND, i);
     if word(t, FULL_DEMAND, 0) == 1 {
-        return demand;
+        demand
+    } else {
+        demand.min(held(t, i))
     }
-    let most = held(t, i);
-    if most < demand { most } else { demand }
 }
 
 // The capacity of the weights at a place: the sum over the kinds of counted copies times weight.

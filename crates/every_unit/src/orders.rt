@@ -20,12 +20,9 @@ pub fn is_fewest(n: usize, bound: usize, left: usize) -> bool {
         return n == 0;
     }
     if bound == 0 {
-        return n == 18446744073709551615;
+        return n == usize::MAX;
     }
-    if times(n, bound) < left {
-        return false;
-    }
-    times(minus(n, 1), bound) < left
+    left <= times(n, bound) && times(minus(n, 1), bound) < left
 }
 
 // Takes from each price its multiplier, down to 0.

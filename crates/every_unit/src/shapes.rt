@@ -34,10 +34,11 @@ fn draw(t: &mut Words, column: usize) -> usize {
 
 // The size that the shape's form gives a kind, of the one drawn and the first kind's.
 fn formed(form: usize, i: usize, drawn: usize, first: usize) -> usize {
-    if i == 0 {
-        return if form == 1 { 1 } else { drawn };
+    match form {
+        1 if i == 0 => 1,
+        2 if i != 0 => first,
+        _ => drawn,
     }
-    if form == 2 { first } else { drawn }
 }
 
 // Draws a side of a kind: 0 the length, 1 the width.

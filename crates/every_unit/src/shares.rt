@@ -45,34 +45,29 @@ fn copies(t: &Words, i: usize, state: usize) -> usize {
 
 // Whether both weights of a kind are at most the pair's shares.
 fn weighs_within(t: &Words, i: usize, c: usize) -> bool {
-    if quotient(c, second_shares(t)) < word(t, WEIGHT, i) {
-        return false;
-    }
-    word(t, SECOND_WEIGHT, i) <= rest(c, second_shares(t))
+    let n = second_shares(t);
+    word(t, WEIGHT, i) <= quotient(c, n) && word(t, SECOND_WEIGHT, i) <= rest(c, n)
 }
 
 // Whether a share admits a piece of a kind.
 pub fn admits(t: &Words, i: usize, c: usize) -> bool {
     if is_exact(t) {
-        return 0 < copies(t, i, c);
+        0 < copies(t, i, c)
+    } else {
+        weighs_within(t, i, c)
     }
-    weighs_within(t, i, c)
 }
 
 // Whether no kind has more copies in state s than in state c.
 fn no_more_copies(t: &Words, s: usize, c: usize) -> bool {
-    for i in 0..word(t, KINDS, 0) {
-        if copies(t, i, c) < copies(t, i, s) {
-            return false;
-        }
-    }
-    true
+    (0..word(t, KINDS, 0)).all(|i| copies(t, i, s) <= copies(t, i, c))
 }
 
 // Whether the first part of a cut may take s of the share c, where s is no greater as a number.
 pub fn divides(t: &Words, s: usize, c: usize) -> bool {
     if is_exact(t) {
-        return no_more_copies(t, s, c);
+        no_more_copies(t, s, c)
+    } else {
+        rest(s, second_shares(t)) <= rest(c, second_shares(t))
     }
-    rest(s, second_shares(t)) <= rest(c, second_shares(t))
 }

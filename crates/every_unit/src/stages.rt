@@ -3,7 +3,7 @@
 // stage fewer, without a cut at stage one, and of cuts in its direction between figures of its own.
 use crate::figures::{best_kind, best_length_cut, best_width_cut, cell, figure_count};
 use crate::job::LIMIT;
-use test_tools::{Words, larger, minus, plus, times, word};
+use test_tools::{Words, minus, plus, times, word};
 
 // How many blocks there are: one where there is no limit.
 pub fn block_count(t: &Words) -> usize {
@@ -21,18 +21,16 @@ fn begins_with_length(block: usize) -> bool {
 
 // The block of the other direction with one stage fewer, which for both blocks of stage one is that without a cut.
 fn source(block: usize) -> usize {
-    if begins_with_length(block) {
-        return minus(block, 1);
-    }
-    minus(block, 3)
+    minus(block, if begins_with_length(block) { 1 } else { 3 })
 }
 
 fn best_own_cut(t: &Words, block: usize, l: usize, w: usize, c: usize) -> usize {
     let start = block_start(t, block);
     if begins_with_length(block) {
-        return best_length_cut(t, start, l, w, c);
+        best_length_cut(t, start, l, w, c)
+    } else {
+        best_width_cut(t, start, l, w, c)
     }
-    best_width_cut(t, start, l, w, c)
 }
 
 pub fn staged_figure(t: &Words, block: usize, l: usize, w: usize, c: usize) -> usize {
@@ -40,5 +38,5 @@ pub fn staged_figure(t: &Words, block: usize, l: usize, w: usize, c: usize) -> u
         return best_kind(t, l, w, c);
     }
     let from = plus(block_start(t, source(block)), cell(t, l, w));
-    larger(word(t, from, c), best_own_cut(t, block, l, w, c))
+    word(t, from, c).max(best_own_cut(t, block, l, w, c))
 }

@@ -7,7 +7,7 @@ use crate::job::{
 use crate::shares::note_capacities;
 use crate::stages::{block_count, block_start, staged_figure};
 use crate::units::list_positions;
-use test_tools::{Words, larger, minus, plus, put, quotient, rest, times, word};
+use test_tools::{Words, minus, plus, put, quotient, rest, times, word};
 
 // The figure that stands at the k-th place of a block: by rising length, then width, then share.
 fn figure_at(t: &Words, block: usize, k: usize) -> usize {
@@ -15,10 +15,11 @@ fn figure_at(t: &Words, block: usize, k: usize) -> usize {
     let l = quotient(cell, widths(t));
     let w = rest(cell, widths(t));
     let c = rest(k, shares(t));
-    if word(t, LIMIT, 0) != 0 {
-        return staged_figure(t, block, l, w, c);
+    if word(t, LIMIT, 0) == 0 {
+        figure(t, l, w, c)
+    } else {
+        staged_figure(t, block, l, w, c)
     }
-    figure(t, l, w, c)
 }
 
 // Fills in every figure of a job, block after block.
@@ -40,7 +41,7 @@ fn plate_figure(t: &Words, block: usize) -> usize {
 // Notes the greater of the last two blocks' figures, or that of the only block.
 fn note_bound(t: &mut Words) {
     let last = minus(block_count(t), 1);
-    let x = larger(plate_figure(t, minus(last, 1)), plate_figure(t, last));
+    let x = plate_figure(t, minus(last, 1)).max(plate_figure(t, last));
     put(t, BOUND, 0, x);
 }
 
@@ -91,8 +92,8 @@ fn keep_normal(t: &mut Words) {
 
 // Computes what is expected of a job, a call's choices and the limit of stages that is set.
 pub fn compute(t: &mut Words, turning: bool, full_demand: bool) {
-    put(t, TURNING, 0, turning as usize);
-    put(t, FULL_DEMAND, 0, full_demand as usize);
+    put(t, TURNING, 0, usize::from(turning));
+    put(t, FULL_DEMAND, 0, usize::from(full_demand));
     note_capacities(t);
     list_positions(t, 0);
     list_positions(t, 1);

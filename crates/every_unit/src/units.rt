@@ -7,50 +7,31 @@ use test_tools::{Words, minus, plus, put, times, word};
 
 // Whether a size leads to a position from a normal one before it.
 fn leads_by(t: &Words, size: usize, x: usize) -> bool {
-    if x < size {
-        return false;
-    }
-    word(t, MARKS, minus(x, size)) == 1
+    size <= x && word(t, MARKS, minus(x, size)) == 1
 }
 
 fn leads_upright(t: &Words, side: usize, i: usize, x: usize) -> bool {
-    if fits(t, i, word(t, PLATE, 0), word(t, PLATE, 1)) {
-        return leads_by(t, kind_room(t, side, i), x);
-    }
-    false
+    fits(t, i, word(t, PLATE, 0), word(t, PLATE, 1)) && leads_by(t, kind_room(t, side, i), x)
 }
 
 fn leads_turned(t: &Words, side: usize, i: usize, x: usize) -> bool {
-    if fits(t, i, word(t, PLATE, 1), word(t, PLATE, 0)) {
-        return leads_by(t, kind_room(t, minus(1, side), i), x);
-    }
-    false
+    fits(t, i, word(t, PLATE, 1), word(t, PLATE, 0))
+        && leads_by(t, kind_room(t, minus(1, side), i), x)
 }
 
 // Whether a kind leads to a position, upright or turned where it may be.
 fn leads_to(t: &Words, side: usize, i: usize, x: usize) -> bool {
-    if leads_upright(t, side, i, x) {
-        return true;
-    }
-    if may_turn(t, i) {
-        return leads_turned(t, side, i, x);
-    }
-    false
+    leads_upright(t, side, i, x) || may_turn(t, i) && leads_turned(t, side, i, x)
 }
 
 // Whether a position is normal, where all before it are marked.
 fn is_normal(t: &Words, side: usize, x: usize) -> bool {
-    for i in 0..word(t, KINDS, 0) {
-        if leads_to(t, side, i, x) {
-            return true;
-        }
-    }
-    x == 0
+    x == 0 || (0..word(t, KINDS, 0)).any(|i| leads_to(t, side, i, x))
 }
 
 // Adds a position to the list of n where it is normal, marks whether it is, and answers how many there are then.
 fn add_position(t: &mut Words, side: usize, x: usize, n: usize) -> usize {
-    let normal = is_normal(t, side, x) as usize;
+    let normal = usize::from(is_normal(t, side, x));
     put(t, MARKS, x, normal);
     put(t, plus(NORMAL_LENGTHS, times(2000, side)), n, x);
     plus(n, normal)

@@ -1,20 +1,27 @@
 -- A short order that was read: the figures of its pieces are its own, its plan is written from them, and what each refusal or the count of
 -- the nodes makes of the answer.
-use Rattle.exact.proofs.Prelude.{◌≡◌, refl, sym, ◌∙◌, ap, ap₂, subst, Bool, List, [], ◌∷◌, ℕ, ◌+◌, ◌-◌, ◌*◌, arith, ltb-false, ltb, length, get_or, Length, Width, over, Tree, Piece, kind, node_count, Sides, rect_of, sides_of, Job, widened, figure_under, normal_positions, plan_of, one_copy, no_more, exact_figure, InTableRange, size_in, price_in, listed_weight, pieces_job, PieceArray, range_solid, widened_above, listed_above, state_figure, laid_plan, next, first_refusal, Refusal, TableShort, Checked, Passed, Refused, cons_passed, words_needed, Kept, by_state, Order, figure_at, by_state_monotone, under, Digits, digits_order, BoundReport, BoundAnswer, pieces_range, same_positions, same_count, same_position, same_words, report_is, answered_behind, refused_behind, ChoiceInput, array_numbered, WriteAnswer, nodes_verdict, reported, write_answer_by, table_of, whole_plan, Thick, Planned, one_passed, listed_over, ExactReport, ExactAnswer, StateFigures, StatesAfter, ExactLeaves, exact_answer_by, Countable, state_report, Filled, Short, exact_of, job_report, job_plan, room_verdict, Drawn}
-use Rattle.promises.specs.declared.BoundAnswer.TheVariants as bounded
+use Rattle.exact.proofs.Prelude.{◌≡◌, refl, sym, ◌∙◌, ap, ap₂, subst, Bool, List, [], ◌∷◌, ℕ, ◌+◌, ◌-◌, ◌*◌, arith, ltb-false, ltb, length, get_or, Length, Width, over, Tree, Piece, kind, node_count, Sides, rect_of, sides_of, Job, widened, figure_under, normal_positions, plan_of, one_copy, no_more, exact_figure, InTableRange, size_in, price_in, listed_weight, pieces_job, PieceArray, range_solid, widened_above, listed_above, state_figure, laid_plan, next, first_refusal, Refusal, TableShort, cons_passed, words_needed, Kept, by_state, Order, figure_at, by_state_monotone, under, Digits, digits_order, BoundReport, pieces_range, same_positions, same_count, same_position, same_words, report_is, ChoiceInput, array_numbered, nodes_verdict, reported, table_of, whole_plan, Thick, Planned, one_passed, listed_over, ExactReport, StateFigures, StatesAfter, ExactLeaves, answer_by, Countable, state_report, Filled, Short, exact_of, job_report, job_plan, room_verdict, Drawn, Ok, Err, passed, Checked, Answer, WriteReport}
 use Rattle.bound.specs.Bound as bound
-use Rattle.promises.specs.declared.ExactAnswer.TheVariants as answer
 use Rattle.exact.proofs.Pieces.{order_same, digits_listed}
+use Rattle.std.specs.Result.{IsErrAnd}
+use Rattle.refusal.proofs.Results.{handed, refused_answer, given_answer, refusal_answered, value_answered, before_refuses}
 
 -- a refusal leaves the plan arrays as they were
-pub untouched : (b : ExactReport) (t : Tree Piece) (kinds operands : List ℕ) (r : Refusal) → Drawn (Refused r) b t kinds operands kinds operands (answer.Refused r)
-untouched b t kinds operands r = record { answer = refl; kinds_left = refl; operands_left = refl }
+pub untouched : (b : ExactReport) (t : Tree Piece) (kinds operands : List ℕ) {v : Checked} {x : Refusal} {r : Answer ExactReport} → v ≡ Err x → IsErrAnd r (λ y. y ≡ x) → Drawn v b t kinds operands kinds operands r
+untouched b t kinds operands e p = rw e (record { answer = handed _ p; kinds_left = refl; operands_left = refl })
 
--- what the writing of a plan answers by a verdict, as the exact call says it
-exact_by : (v : Checked) (b : BoundReport) (n : ℕ) → exact_of (write_answer_by v (reported b n))
-    ≡ exact_answer_by v (record { optimum = b.bound; states = b.capacity + 1; length_count = b.length_count; columns = b.columns; nodes = n })
-exact_by Passed b n = refl
-exact_by (Refused r) b n = refl
+-- what the writing of a plan answers, as the exact call says it: a refusal, or a report
+module _ {v : Checked} {b : BoundReport} {t : Tree Piece} {kinds operands new_kinds new_operands : List ℕ} {r : Answer WriteReport} (p : Planned v b t kinds operands new_kinds new_operands r) where
+  abbrev Said : Answer ExactReport → Type 0
+  Said x = Drawn v (exact_of (reported b (node_count t))) t kinds operands new_kinds new_operands x
+
+  pub plan_refused : {y : Refusal} {x : Answer ExactReport} → r ≡ Err y → IsErrAnd x (λ z. z ≡ y) → Said x
+  plan_refused e i = record { answer = refused_answer _ _ _ (refusal_answered v _ (sym p.answer ∙ e)) i; kinds_left = p.kinds_left; operands_left = p.operands_left }
+
+  pub plan_reported : {w : WriteReport} {x : ExactReport} → r ≡ Ok w → x ≡ exact_of w → Said (Ok x)
+  plan_reported e i =
+      let k = value_answered v _ (sym p.answer ∙ e) in
+      record { answer = given_answer _ _ k.0 (ap Ok i ∙ ap (λ w. Ok (exact_of w)) k.1); kinds_left = p.kinds_left; operands_left = p.operands_left }
 
 module _ {J : Job} {q : ℕ} {blocks : List ℕ} (given : Short J blocks q) {plate : Sides} {n : ℕ} {pieces : List ℕ} (on : plate ≡ sides_of (widened J).plate) (array : PieceArray (widened J) (one_copy J) n pieces) where
   -- the plain job of the pieces, and the order of the states
@@ -44,7 +51,7 @@ module _ {J : Job} {q : ℕ} {blocks : List ℕ} (given : Short J blocks q) {pla
   abbrev F : ℕ → ℕ → ℕ → ℕ
   F = figure_at N le (listed_weight pieces)
 
-  module _ {old new : bound.Memory} {floors : List ℕ} {b : BoundAnswer} (left : Filled N F q old new floors b) where
+  module _ {old new : bound.Memory} {floors : List ℕ} {b : Answer BoundReport} (left : Filled N F q old new floors b) where
     -- the plain job on the widened plate
     abbrev W : Job
     W = pieces_job (widened J).plate n pieces
@@ -79,10 +86,10 @@ module _ {J : Job} {q : ℕ} {blocks : List ℕ} (given : Short J blocks q) {pla
     lists = first_refusal (bound.list_check (widened J) (length old.lengths) (length old.widths) ∷ [])
 
     same_table : (v : Checked) → StatesAfter v W G q old.table new.table → StatesAfter v (widened J) (exact_figure (widened J)) q old.table new.table
-    same_table Passed t = (same_figures new.table t.0, subst (λ k. Kept k old.table new.table) (same_words (widened J) (one_copy J) n pieces array q) t.1)
-    same_table (Refused r) t = t
+    same_table (Ok _) t = (same_figures new.table t.0, subst (λ k. Kept k old.table new.table) (same_words (widened J) (one_copy J) n pieces array q) t.1)
+    same_table (Err r) t = t
 
-    pub memory_left : ExactLeaves Passed (widened J) (exact_figure (widened J)) q old new
+    pub memory_left : ExactLeaves passed (widened J) (exact_figure (widened J)) q old new
     memory_left = record {
       lengths = moved.memory.lengths ∙ ap (λ xs. bound.list_after lists xs old.lengths) (same_positions (widened J) (one_copy J) n pieces array Length);
       widths = moved.memory.widths ∙ ap (λ xs. bound.list_after lists xs old.widths) (same_positions (widened J) (one_copy J) n pieces array Width);
@@ -92,25 +99,23 @@ module _ {J : Job} {q : ℕ} {blocks : List ℕ} (given : Short J blocks q) {pla
     abbrev R : BoundReport
     R = state_report (widened J) (exact_figure (widened J)) q
 
-    whole : b ≡ bound.answer_by storage R
-    whole = moved.answer ∙ ap₂ bound.answer_by same_checks
+    whole : b ≡ answer_by storage R
+    whole = moved.answer ∙ ap₂ answer_by same_checks
         (report_is (same_figure (widened J).plate.0 (widened J).plate.1 q) refl (same_count (widened J) (one_copy J) n pieces array Length) (same_count (widened J) (one_copy J) n pieces array Width))
 
     abbrev T : Tree Piece
     T = job_plan J q
 
     -- the storage is refused: so is the plan
-    pub storage_refused : (kinds operands : List ℕ) {r : Refusal} → b ≡ bounded.Refused r → Drawn (room_verdict J q old kinds operands) (job_report J q) T kinds operands kinds operands (answer.Refused r)
-    storage_refused kinds operands {r} e =
-        let v = refused_behind storage R (sym e ∙ whole) in
-        subst (λ v. Drawn (next v (nodes_verdict T kinds operands)) (job_report J q) T kinds operands kinds operands (answer.Refused r)) (sym v) (untouched (job_report J q) T kinds operands r)
+    pub storage_refused : (kinds operands : List ℕ) {x : Refusal} {r : Answer ExactReport} → b ≡ Err x → IsErrAnd r (λ y. y ≡ x) → Drawn (room_verdict J q old kinds operands) (job_report J q) T kinds operands kinds operands r
+    storage_refused kinds operands e = untouched (job_report J q) T kinds operands (before_refuses storage _ (refusal_answered _ R (sym whole ∙ e)))
 
-    module _ {report : BoundReport} (e : b ≡ bounded.Answered report) where
-      stored : (storage ≡ Passed) × (report ≡ R)
-      stored = answered_behind storage R (sym e ∙ whole)
+    module _ {report : BoundReport} (e : b ≡ Ok report) where
+      stored : (storage ≡ passed) × (report ≡ R)
+      stored = value_answered storage R (sym whole ∙ e)
 
-      behind : (first_refusal (bound.memory_checks N q old) ≡ Passed) × (report ≡ state_report N F q)
-      behind = answered_behind (first_refusal (bound.memory_checks N q old)) (state_report N F q) (sym e ∙ left.answer)
+      behind : (first_refusal (bound.memory_checks N q old) ≡ passed) × (report ≡ state_report N F q)
+      behind = value_answered _ (state_report N F q) (sym left.answer ∙ e)
 
       -- what planning asks
       pub plan_ready : ChoiceInput (table_of plate n report) blocks d pieces new.lengths new.widths floors new.table
@@ -119,7 +124,7 @@ module _ {J : Job} {q : ℕ} {blocks : List ℕ} (given : Short J blocks q) {pla
           let words = bound.table_check N q (length old.table) in
           let long = cons_passed lists.0 lists.1 (words ∷ []) behind.0 in
           let room = cons_passed words.0 words.1 [] long.1 in
-          let v : first_refusal (lists ∷ []) ≡ Passed = one_passed lists.0 lists.1 long.0 in
+          let v : first_refusal (lists ∷ []) ≡ passed = one_passed lists.0 lists.1 long.0 in
           let l : new.lengths ≡ over (normal_positions N Length) old.lengths = left.memory.lengths ∙ ap (λ u. bound.list_after u (normal_positions N Length) old.lengths) v in
           let w : new.widths ≡ over (normal_positions N Width) old.widths = left.memory.widths ∙ ap (λ u. bound.list_after u (normal_positions N Width) old.widths) v in
           let f = subst (λ u. StatesAfter u N F q old.table new.table) behind.0 left.memory.table in
@@ -152,11 +157,10 @@ module _ {J : Job} {q : ℕ} {blocks : List ℕ} (given : Short J blocks q) {pla
           ∙ ap (λ o. plan_of J (by_state o (λ p. one_copy J (kind p))) (widened J).plate.0 (widened J).plate.1 q) (order_same J given.in_range.kinds.0 blocks given.listed))
 
       -- check 21 alone is left
-      pub plan_made : {kinds operands new_kinds new_operands : List ℕ} {r : WriteAnswer} {x : ExactAnswer} → x ≡ exact_of r
+      pub plan_made : {kinds operands new_kinds new_operands : List ℕ} {r : Answer WriteReport}
           → Planned (nodes_verdict (whole_plan le J.kerf (table_of plate n report) pieces) kinds operands) report (whole_plan le J.kerf (table_of plate n report) pieces) kinds operands new_kinds new_operands r
-          → Drawn (room_verdict J q old kinds operands) (job_report J q) T kinds operands new_kinds new_operands x
-      plan_made {kinds} {operands} {new_kinds} {new_operands} {r} {x} f p =
+          → Planned (room_verdict J q old kinds operands) R T kinds operands new_kinds new_operands r
+      plan_made {kinds} {operands} {new_kinds} {new_operands} {r} p =
           let a = subst (λ t. Planned (nodes_verdict t kinds operands) report t kinds operands new_kinds new_operands r) same_plan p in
           let c = subst (λ y. Planned (nodes_verdict T kinds operands) y T kinds operands new_kinds new_operands r) stored.1 a in
-          subst (λ v. Drawn (next v (nodes_verdict T kinds operands)) (job_report J q) T kinds operands new_kinds new_operands x) (sym stored.0)
-          (record { answer = f ∙ ap exact_of c.answer ∙ exact_by (nodes_verdict T kinds operands) R (node_count T); kinds_left = c.kinds_left; operands_left = c.operands_left })
+          subst (λ v. Planned (next v (nodes_verdict T kinds operands)) R T kinds operands new_kinds new_operands r) (sym stored.0) c

@@ -3,9 +3,6 @@ use Rattle.exact.proofs.Prelude.{◌≡◌, refl, sym, ◌∙◌, ap, ap₂, ◌
 use Rattle.exact.proofs.States.{zero_one, B, states_some, blocked}
 
 module _ (own : ℕ → ℕ) (old : List ℕ) where
-  pub stated_none : Stated 0 own old old
-  stated_none = record { entries = refl; states_are = λ j h. absurd (omega arith); others = λ k h. refl }
-
   -- one piece more
   pub stated_more : (i v : ℕ) {now : List ℕ} → Stated i own old now → 5 * i + 3 < length now → v ≡ own (node_in now i / 2) → Stated (i + 1) own old (set now (5 * i + 3) v)
   stated_more i v {now} s room e = record {
@@ -17,10 +14,6 @@ module _ (own : ℕ → ℕ) (old : List ℕ) where
       go : (j : ℕ) → j < i + 1 → Dec (j ≡ i) → listed_weight (set now (5 * i + 3) v) j ≡ own (node_in old j / 2)
       go j h (yes d) = rw d (get_or-set_same now (5 * i + 3) v 0 room ∙ e ∙ ap (λ n. own (n / 2)) (s.others (5 * i + 4) (λ j g. omega arith)))
       go j h (no d) = get_or-set_other now (5 * i + 3) (5 * j + 3) v 0 (λ g. omega arith) ∙ s.states_are j (omega arith)
-
--- the next piece's kind has an entry
-pub stated_kind : {old now blocks : List ℕ} {own : ℕ → ℕ} {n k : ℕ} → Statable old n blocks → Stated k own old now → (i : ℕ) → i < n → node_in now i / 2 < length blocks
-stated_kind given s i h = let e = s.others (5 * i + 4) (λ j g. omega arith) in rw e (given.kinds i h)
 
 -- the kind of a node's number
 half_node : (p : Piece) → node_number p / 2 ≡ kind p

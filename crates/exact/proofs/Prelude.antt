@@ -1,7 +1,6 @@
 -- What the proofs of this crate take from libraries and from other crates, named once.
 pub use Prim.Native.Nat.{◌%◌, ◌*◌, ◌+◌, ◌-◌, ◌/◌, ◌<◌, ◌≤◌, suc, zero, ℕ}
-pub use borrow.Author.Rules.{rules, scaled_Fits}
-pub use borrow.Author.Tests.{eq-eqb, le-ltb, lt-ltb, ltb-false, ne_eqb}
+pub use borrow.Author.Tests.{eq-eqb, le-ltb, lt-ltb, ltb-false, ltb-true, ne_eqb}
 pub use lib.Dec.{T, eqb, leb, leb→le, le→leb, ltb}
 pub use lib.ListN.{get_or, length, length-set, set}
 pub use lib.Seq.{get_or-set_other, get_or-set_same}
@@ -12,11 +11,10 @@ pub use native.Mathlib.Decide.{dec_lt, ℕ_discrete}
 pub use native.Mathlib.Nat.{add-sub_cancel, div-add-mod', div-lt_iff_lt-mul, mod-eq_of_lt, mod-lt, mul-add-mod_self_right, mul-le-mul, mul-le-mul_right, sub-zero}
 pub use native.Mathlib.Numerals.{add-one}
 pub use native.Mathlib.Omega.{arith}
-pub use Rattle.bound.proofs.Holds.{answered_behind, refused_behind}
 pub use Rattle.bound.proofs.Last.{last_position, word_last}
 pub use Rattle.bound.proofs.Listed.{pieces_range, same_count, same_position, same_positions, same_words}
 pub use Rattle.bound.proofs.Storage.{report_is, unreported}
-pub use Rattle.bound.specs.Bound.{answer_by, lent}
+pub use Rattle.bound.specs.Bound.{lent}
 pub use Rattle.choice.proofs.Numbers.{array_numbered}
 pub use Rattle.choice.specs.Choice.{ChoiceInput}
 pub use Rattle.cutting.proofs.AnyKinds.{any_on, none_any}
@@ -58,20 +56,14 @@ pub use Rattle.job.specs.Weights.{block_job}
 pub use Rattle.plan.proofs.Calls.{read_range}
 pub use Rattle.plan.proofs.Plans.{plans_checked}
 pub use Rattle.plan.specs.Trees.{PlanOf}
-pub use Rattle.promises.specs.declared.BoundAnswer.{BoundAnswer}
 pub use Rattle.promises.specs.declared.BoundReport.{BoundReport}
-pub use Rattle.promises.specs.declared.Checked.{Checked}
-pub use Rattle.promises.specs.declared.Checked.TheVariants.{Passed, Refused}
 pub use Rattle.promises.specs.declared.Choices.{Choices}
 pub use Rattle.promises.specs.declared.Direction.TheVariants.{Length, Width}
-pub use Rattle.promises.specs.declared.ExactAnswer.{ExactAnswer}
 pub use Rattle.promises.specs.declared.ExactReport.{ExactReport}
-pub use Rattle.promises.specs.declared.JobAnswer.{JobAnswer}
 pub use Rattle.promises.specs.declared.JobRecord.{JobRecord}
 pub use Rattle.promises.specs.declared.Refusal.{Refusal}
 pub use Rattle.promises.specs.declared.Refusal.TheVariants.{DemandProduct, TableShort}
-pub use Rattle.promises.specs.declared.WriteAnswer.{WriteAnswer}
-pub use Rattle.refusal.specs.Refusals.{next, outcome_by, refuse_when}
+pub use Rattle.refusal.specs.Refusals.{next, refuse_when}
 unfoldable pub use Rattle.refusal.specs.Refusals.{first_refusal}
 pub use Rattle.states.proofs.Digits.{below_parts, digits_order, parts_below, quotient, rest}
 pub use Rattle.states.proofs.Ties.{digit_last, digit_lower, digits_within, within_digits}
@@ -79,15 +71,16 @@ pub use Rattle.states.specs.States.{Digits, Figures, under}
 pub use Rattle.storage.proofs.Filled.{fillable}
 pub use Rattle.storage.proofs.Storage.{last_laid, ready_laid, refused_laid}
 pub use Rattle.storage.specs.Clauses.{LaidOut}
-pub use Rattle.storage.specs.declared.Layout.TheVariants.{Ready}
 pub use Rattle.table.proofs.Shares.{by_state_monotone}
 pub use Rattle.table.specs.Clauses.{size_job}
 pub use Rattle.table.specs.States.{Blocks, Order}
 unfoldable pub use Rattle.table.specs.States.{below, by_state, digit, figure_at, own_state}
 pub use Rattle.table.specs.Table.{Kept, position_count, words_needed}
-pub use Rattle.table.specs.declared.TableSize.{TableSize}
 pub use Rattle.writer.proofs.Write.{listed_over, none_long, one_passed}
 pub use Rattle.writer.specs.Clauses.{Planned, Thick, table_of, whole_plan}
-pub use Rattle.writer.specs.Write.{nodes_check, nodes_verdict, reported, write_answer_by}
+pub use Rattle.writer.specs.Write.{nodes_check, nodes_verdict, reported}
 pub use Rattle.exact.specs.Clauses.{Countable, Drawn, Filled, Multiplied, Short, Statable, Stated, StatesCounted, exact_of, job_plan, job_report, room_verdict, state_report, stride}
-pub use Rattle.exact.specs.Exact.{CopiesByDigits, ExactLeaves, ExactPromises, OptimumHolds, OptimumPlanned, OptimumWritten, ShortOrder, StateFigures, StatesAfter, exact_answer_by, exact_outcome, exact_report, exact_values, exact_verdict, short_verdict, state_check}
+pub use Rattle.exact.specs.Exact.{CopiesByDigits, ExactLeaves, ExactPromises, OptimumHolds, OptimumPlanned, OptimumWritten, ShortOrder, StateFigures, StatesAfter, exact_outcome, exact_report, exact_values, exact_verdict, short_verdict, state_check}
+pub use Rattle.std.proofs.Common.{Ok, Err}
+pub use Rattle.promises.specs.Refusals.{Checked, Answer, passed, answer_by}
+pub use Rattle.promises.specs.declared.WriteReport.{WriteReport}

@@ -1,28 +1,29 @@
 -- What the figures of pieces answer, and what lent memory then holds, from the storage as it was laid out; and the word from which the
 -- optimum is read.
-use Rattle.exact.proofs.Prelude.{◌≡◌, refl, sym, ◌∙◌, ap, ap₂, Bool, List, ℕ, ◌+◌, ◌-◌, arith, length, get_or, Length, Width, Job, InTableRange, table_solid, positions_some, floor_under, Refusal, TableSize, position_count, words_needed, Kept, by_state, Order, figure_at, by_state_monotone, LaidOut, refused_laid, ready_laid, BoundReport, lent, answer_by, unreported, last_position, word_last, StateFigures, state_report, Filled}
-use Rattle.storage.specs.declared.Layout.TheVariants as layout
-use Rattle.promises.specs.declared.BoundAnswer.TheVariants as answer
+use Rattle.exact.proofs.Prelude.{◌≡◌, refl, sym, ◌∙◌, ap, ap₂, Bool, List, ℕ, ◌+◌, ◌-◌, arith, length, get_or, Length, Width, Job, InTableRange, table_solid, positions_some, floor_under, Refusal, position_count, words_needed, Kept, by_state, Order, figure_at, by_state_monotone, LaidOut, refused_laid, ready_laid, BoundReport, lent, unreported, last_position, word_last, StateFigures, state_report, Filled, Ok, Err, Answer}
+use Rattle.storage.specs.declared.Layout.{Layout}
+use Rattle.refusal.proofs.Results.{handed, refused_answer, given_answer}
+use Rattle.std.specs.Result.{IsErrAnd}
 
-module _ (J : Job) (F : ℕ → ℕ → ℕ → ℕ) (q : ℕ) {lengths widths table floors new_lengths new_widths new_floors : List ℕ} where
+module _ (J : Job) (F : ℕ → ℕ → ℕ → ℕ) (q : ℕ) {lengths widths table floors new_lengths new_widths new_floors : List ℕ} {a : Answer Layout}
+    (laid : LaidOut J q (q + 1) (length table) lengths widths floors new_lengths new_widths new_floors a) where
   -- the storage is refused, and the table is untouched
-  pub refused : {r : Refusal} → LaidOut J q (q + 1) (length table) lengths widths floors new_lengths new_widths new_floors (layout.Refused r)
-      → Filled J F q (lent lengths widths table) (lent new_lengths new_widths table) new_floors (answer.Refused r)
-  refused laid =
-      let v = refused_laid laid in
+  pub refused : {x : Refusal} {r : Answer BoundReport} → a ≡ Err x → IsErrAnd r (λ y. y ≡ x) → Filled J F q (lent lengths widths table) (lent new_lengths new_widths table) new_floors r
+  refused {r = r} e p =
+      let v = refused_laid laid e in
       record {
-        answer = sym (ap (λ v. answer_by v (state_report J F q)) v);
+        answer = refused_answer _ _ _ v p;
         memory = record { lengths = laid.lengths_left; widths = laid.widths_left; table = rw v refl };
-        mapped = λ b e. unreported e;
+        mapped = λ b f. unreported (sym (handed r p) ∙ f);
       }
 
   -- there is room: the report and the figures
-  pub reported : {size : TableSize} {n : ℕ} {new_table : List ℕ} {b : BoundReport} → LaidOut J q (q + 1) (length table) lengths widths floors new_lengths new_widths new_floors (layout.Ready size n)
-      → b ≡ state_report J F q → StateFigures J F q new_table × Kept (words_needed J q) table new_table → Filled J F q (lent lengths widths table) (lent new_lengths new_widths new_table) new_floors (answer.Answered b)
-  reported laid e f =
-      let k = ready_laid laid in
+  pub reported : {l : Layout} {new_table : List ℕ} {b : BoundReport} → a ≡ Ok l → b ≡ state_report J F q → StateFigures J F q new_table × Kept (words_needed J q) table new_table
+      → Filled J F q (lent lengths widths table) (lent new_lengths new_widths new_table) new_floors (Ok b)
+  reported e b f =
+      let k = ready_laid laid e in
       record {
-        answer = ap (λ x. answer.Answered x) e ∙ sym (ap (λ v. answer_by v (state_report J F q)) k.passed);
+        answer = given_answer _ _ k.passed (ap Ok b);
         memory = record { lengths = laid.lengths_left; widths = laid.widths_left; table = rw k.passed f };
         mapped = λ b e. k.mapped;
       }

@@ -1,41 +1,34 @@
 -- What only the inner contracts of the exact call cite: the numbers of states that the kinds have together, the states in the array of
 -- pieces, and what the figures and the plan of pieces ask and leave.
-use Rattle.std.specs.Prelude.{◌≡◌, List, ℕ, zero, suc, ◌+◌, ◌*◌, ◌/◌, ◌≤◌, ◌<◌, length, get_or}
+use Rattle.std.specs.Prelude.{◌≡◌, List, [], ◌∷◌, ℕ, zero, suc, ◌+◌, ◌*◌, ◌/◌, ◌≤◌, ◌<◌, length, get_or, Ok}
+use Rattle.std.specs.Result.{ForOk}
 use Rattle.promises.specs.declared.Direction.TheVariants.{Length, Width}
 use Rattle.cutting.specs.Limits.{most_capacity, most_pieces}
 use Rattle.cutting.specs.Tree.{Tree}
 use Rattle.cutting.specs.Pieces.{Piece}
 use Rattle.cutting.specs.Preorder.{kinds_of, operands_of, node_count}
 use Rattle.cutting.specs.Job.{Job, InRange, widened, plan_of}
-use Rattle.cutting.specs.Exact.{states, state_count, by_copies, exact_figure}
+use Rattle.cutting.specs.Exact.{states, state_count, full_state, by_copies, exact_figure}
 use Rattle.cutting.specs.Listed.{InTableRange, listed_weight, node_in}
-use Rattle.refusal.specs.Refusals.{next, first_refusal}
-use Rattle.promises.specs.declared.Checked.{Checked}
-use Rattle.promises.specs.declared.Checked.TheVariants.{Passed}
+use Rattle.refusal.specs.Refusals.{Answer, Checked, passed, answer_by, next, first_refusal}
 use Rattle.table.specs.Table.{position_count}
 use Rattle.storage.specs.Clauses.{BothMapped}
 use Rattle.states.specs.States.{Digits}
 use Rattle.promises.specs.declared.BoundReport.{BoundReport}
-use Rattle.promises.specs.declared.BoundAnswer.{BoundAnswer}
-use Rattle.promises.specs.declared.BoundAnswer.TheVariants.{Answered}
 use Rattle.bound.specs.Bound as bound
-use Rattle.promises.specs.declared.WriteAnswer.{WriteAnswer}
-use Rattle.promises.specs.declared.WriteAnswer.TheVariants as written
 use Rattle.writer.specs.Write.{nodes_verdict}
 use Rattle.promises.specs.declared.ExactReport.{ExactReport}
-use Rattle.promises.specs.declared.ExactAnswer.{ExactAnswer}
-use Rattle.promises.specs.declared.ExactAnswer.TheVariants as exact
-use Rattle.exact.specs.Exact.{most_states, ExactLeaves, exact_answer_by}
+use Rattle.exact.specs.Exact.{state_check, ExactLeaves}
+use Rattle.promises.specs.declared.WriteReport.{WriteReport}
 
 -- the entries of the kinds below n are the numbers of states that the kinds up to each have together
 abbrev pub Multiplied : Job → ℕ → List ℕ → Type 0
 Multiplied J n blocks = (i : ℕ) → i < n → get_or blocks i 0 ≡ states J.demand (suc i)
 
--- the product of the demands, each plus 1, which stops growing above 4,096: up to there it is the number of states, and all are listed
-pub record StatesCounted (J : Job) (old new : List ℕ) (r : ℕ) : Type 0 where
-  pub entries : length new ≡ length old
-  pub few : r ≤ most_states → (r ≡ state_count J) × Multiplied J J.count new
-  pub many : most_states < r → most_states < state_count J
+-- the states of an order that are counted: the last state, and the entries of all kinds, or refusal 30
+pub record StatesCounted (J : Job) (blocks : List ℕ) (r : Answer ℕ) : Type 0 where
+  pub answer : r ≡ answer_by (first_refusal (state_check J ∷ [])) (full_state J)
+  pub listed : ForOk r (λ q. Multiplied J J.count blocks × (length blocks ≡ 64))
 
 -- the state of one copy of a kind, from these entries
 abbrev pub stride : List ℕ → ℕ → ℕ
@@ -66,10 +59,10 @@ abbrev pub state_report : Job → (ℕ → ℕ → ℕ → ℕ) → ℕ → Boun
 state_report J F q = record { bound = F J.plate.0 J.plate.1 q; capacity = q; length_count = position_count J Length; columns = position_count J Width }
 
 -- the answer of a job with the figures F, what it leaves in lent memory, and where it has a report the floors of both sides
-pub record Filled (J : Job) (F : ℕ → ℕ → ℕ → ℕ) (q : ℕ) (old new : bound.Memory) (floors : List ℕ) (r : BoundAnswer) : Type 0 where
-  pub answer : r ≡ bound.answer_by (first_refusal (bound.memory_checks J q old)) (state_report J F q)
-  pub memory : ExactLeaves Passed J F q old new
-  pub mapped : (b : BoundReport) → r ≡ Answered b → BothMapped J floors
+pub record Filled (J : Job) (F : ℕ → ℕ → ℕ → ℕ) (q : ℕ) (old new : bound.Memory) (floors : List ℕ) (r : Answer BoundReport) : Type 0 where
+  pub answer : r ≡ answer_by (first_refusal (bound.memory_checks J q old)) (state_report J F q)
+  pub memory : ExactLeaves passed J F q old new
+  pub mapped : (b : BoundReport) → r ≡ Ok b → BothMapped J floors
 
 -- a job that was read, its last state, and the numbers of states that its kinds have together
 pub record Short (J : Job) (blocks : List ℕ) (q : ℕ) : Type 0 where
@@ -79,10 +72,9 @@ pub record Short (J : Job) (blocks : List ℕ) (q : ℕ) : Type 0 where
   pub listed : Multiplied J J.count blocks
   pub entries : length blocks ≡ 64
 
--- what the writing of a plan answers, as the exact call says it: the last state plus 1 is the number of states
-abbrev pub exact_of : WriteAnswer → ExactAnswer
-exact_of (written.Written b) = exact.Answered (record { optimum = b.bound; states = b.capacity + 1; length_count = b.length_count; columns = b.columns; nodes = b.nodes })
-exact_of (written.Refused r) = exact.Refused r
+-- what the writing of a plan reports, as the exact call says it: the last state plus 1 is the number of states
+abbrev pub exact_of : WriteReport → ExactReport
+exact_of b = record { optimum = b.bound; states = b.capacity + 1; length_count = b.length_count; columns = b.columns; nodes = b.nodes }
 
 -- the plan from the widened plate and a state downward
 abbrev pub job_plan : Job → ℕ → Tree Piece
@@ -103,7 +95,7 @@ abbrev pub room_verdict : Job → ℕ → bound.Memory → List ℕ → List ℕ
 room_verdict J q m kinds operands = next (first_refusal (bound.memory_checks (widened J) q m)) (nodes_verdict (job_plan J q) kinds operands)
 
 -- what a verdict makes of the answer, and of the plan arrays: the plan over their old contents, or as they were
-pub record Drawn (v : Checked) (b : ExactReport) (t : Tree Piece) (kinds operands new_kinds new_operands : List ℕ) (r : ExactAnswer) : Type 0 where
-  pub answer : r ≡ exact_answer_by v b
+pub record Drawn (v : Checked) (b : ExactReport) (t : Tree Piece) (kinds operands new_kinds new_operands : List ℕ) (r : Answer ExactReport) : Type 0 where
+  pub answer : r ≡ answer_by v b
   pub kinds_left : new_kinds ≡ bound.list_after v (kinds_of t) kinds
   pub operands_left : new_operands ≡ bound.list_after v (operands_of t) operands

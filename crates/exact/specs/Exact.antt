@@ -1,7 +1,7 @@
 -- The exact call: its checks in the table's order, its answer with number and values, what it leaves in lists, table and plan arrays, and
 -- what the answered optimum is. Where it says what the bound call or the writing call says, it cites their definitions.
 -- docs/SCOPE.md: The exact answer for short orders.
-use Rattle.std.specs.Prelude.{◌≡◌, List, [], ◌∷◌, ◌++◌, ℕ, ◌+◌, ◌≤◌, ◌<◌, length, get_or}
+use Rattle.std.specs.Prelude.{◌≡◌, List, [], ◌∷◌, ◌++◌, ℕ, ◌+◌, ◌≤◌, ◌<◌, length, get_or, Ok}
 use Rattle.promises.specs.declared.Direction.TheVariants.{Length, Width}
 use Rattle.cutting.specs.Lists.{over}
 use Rattle.cutting.specs.Tree.{Tree, IdleFree}
@@ -11,9 +11,7 @@ use Rattle.cutting.specs.Job.{Job, at_full_demand, bound_of, normal_positions}
 use Rattle.cutting.specs.Promises.{NoneFiner, NormalSums, PlanFollows}
 use Rattle.cutting.specs.Two.{two_bound}
 use Rattle.cutting.specs.Exact.{state_count, full_state, by_copies, exact_figure, optimum, optimum_plan, ExactRecursion, ExactFloors, EarnsExactly, MostExact, ExactFiguresMost}
-use Rattle.refusal.specs.Refusals.{Outcome, next, first_refusal, by_check, outcome_by}
-use Rattle.promises.specs.declared.Checked.{Checked}
-use Rattle.promises.specs.declared.Checked.TheVariants.{Passed}
+use Rattle.refusal.specs.Refusals.{Answer, Checked, Outcome, passed, next, first_refusal, by_check, answer_by, outcome_by, outcome_of, verdict_of}
 use Rattle.promises.specs.declared.Choices.{Choices}
 use Rattle.job.specs.Block.{job_checks}
 use Rattle.job.specs.Weights.{block_job}
@@ -23,12 +21,10 @@ use Rattle.plan.specs.Plan.{plan_answer}
 use Rattle.plan.specs.Trees.{PlanOf}
 use Rattle.writer.specs.Write.{nodes_verdict}
 use Rattle.promises.specs.declared.ExactReport.{ExactReport}
-use Rattle.promises.specs.declared.ExactAnswer.{ExactAnswer}
-use Rattle.promises.specs.declared.ExactAnswer.TheVariants as answer
 pub use Rattle.promises.specs.Block.{state_check}
 pub use Rattle.promises.specs.Refusals.{most_states}
 pub use Rattle.promises.specs.Systems.{CopiesByDigits}
-pub use Rattle.promises.specs.Calls.{exact_outcome}
+pub use Rattle.promises.specs.Calls.{exact_values}
 
 -- The table has the layout of the bound call's with the last state in place of the capacity: a word a state. In the definitions up to
 -- `ExactLeaves`, J is the job with the kerf added to every side, F gives its figures, and q is the last state.
@@ -53,7 +49,7 @@ short_verdict s choices = first_refusal (job_checks s choices ++ (state_check (b
 
 -- a job block that none of them refuses: a short order
 abbrev pub ShortOrder : List ℕ → Choices → Type 0
-ShortOrder s choices = short_verdict s choices ≡ Passed
+ShortOrder s choices = short_verdict s choices ≡ passed
 
 -- the verdict of the call: those, 19, 20, 21
 abbrev pub exact_verdict : List ℕ → Choices → Memory → List ℕ → List ℕ → Checked
@@ -70,19 +66,15 @@ exact_report s choices = record {
   nodes = node_count (optimum_plan (block_job s choices));
 }
 
--- the report, or the refusal
-abbrev pub exact_answer_by : Checked → ExactReport → ExactAnswer
-exact_answer_by v b = by_check v (answer.Answered b) answer.Refused
-
 -- what the call answers
-abbrev pub exact_answer : List ℕ → Choices → Memory → List ℕ → List ℕ → ExactAnswer
-exact_answer s choices m kinds operands = exact_answer_by (exact_verdict s choices m kinds operands) (exact_report s choices)
+abbrev pub exact_answer : List ℕ → Choices → Memory → List ℕ → List ℕ → Answer ExactReport
+exact_answer s choices m kinds operands = answer_by (exact_verdict s choices m kinds operands) (exact_report s choices)
 
--- a report's values: the optimum, the number of states, p, r and the node count
-abbrev pub exact_values : ExactReport → List ℕ
-exact_values b = b.optimum ∷ b.states ∷ b.length_count ∷ b.columns ∷ b.nodes ∷ []
+-- an answer's number and values: the optimum, the number of states, p, r and the node count
+abbrev pub exact_outcome : Answer ExactReport → Outcome
+exact_outcome r = outcome_of exact_values r
 
--- the number and values that the call answers
+-- those that the call answers
 abbrev pub exact_said : List ℕ → Choices → Memory → List ℕ → List ℕ → Outcome
 exact_said s choices m kinds operands = outcome_by (exact_verdict s choices m kinds operands) (exact_values (exact_report s choices))
 
@@ -109,7 +101,7 @@ pub record OptimumPlanned (J : Job) : Type 0 where
 -- contents, and it has the answered number of nodes
 pub record OptimumWritten (J : Job) (t : Tree Piece) (kinds operands new_kinds new_operands : List ℕ) (b : ExactReport) : Type 0 where
   pub passes : PlanOf J t (kinds_of t) (operands_of t)
-  pub checked : (plan_answer J (kinds_of t) (operands_of t)).verdict ≡ Passed
+  pub checked : verdict_of (plan_answer J (kinds_of t) (operands_of t)) ≡ passed
   pub earns : EarnsExactly J b.optimum t
   pub kinds_hold : new_kinds ≡ over (kinds_of t) kinds
   pub operands_hold : new_operands ≡ over (operands_of t) operands
@@ -120,7 +112,7 @@ pub record OptimumWritten (J : Job) (t : Tree Piece) (kinds operands new_kinds n
 -- sums. Of a short order, whatever storage is lent: its optimum and its plan hold, the figure of a state is the most that a tree earns there
 -- with of no kind more copies than remain, the order of states is that of these copies, and a tabled figure is that of every rectangle
 -- whose largest normal sides it has. An answered optimum holds, and an answer reports the plan as it was written
-pub record ExactPromises (s : List ℕ) (choices : Choices) (old new : Memory) (kinds operands new_kinds new_operands : List ℕ) (r : ExactAnswer) : Type 0 where
+pub record ExactPromises (s : List ℕ) (choices : Choices) (old new : Memory) (kinds operands new_kinds new_operands : List ℕ) (r : Answer ExactReport) : Type 0 where
   pub answers : r ≡ exact_answer s choices old kinds operands
   pub outcome : exact_outcome r ≡ exact_said s choices old kinds operands
   pub memory : ExactLeaves (short_verdict s choices) (wide_job s choices) (exact_figure (wide_job s choices)) (full_state (block_job s choices)) old new
@@ -128,10 +120,10 @@ pub record ExactPromises (s : List ℕ) (choices : Choices) (old new : Memory) (
   pub operands_left : new_operands ≡ exact_array_after s choices old kinds operands (operands_of (optimum_plan (block_job s choices))) operands
   pub recursion : ExactRecursion (wide_job s choices)
   pub normal : NormalSums (wide_job s choices)
-  pub exact : (b : ExactReport) → r ≡ answer.Answered b → OptimumHolds (block_job s choices) b.optimum
+  pub exact : (b : ExactReport) → r ≡ Ok b → OptimumHolds (block_job s choices) b.optimum
   pub optimal : ShortOrder s choices → OptimumHolds (block_job s choices) (optimum (block_job s choices))
   pub planned : ShortOrder s choices → OptimumPlanned (block_job s choices)
   pub figures : ShortOrder s choices → ExactFiguresMost (block_job s choices)
   pub digits : ShortOrder s choices → CopiesByDigits (block_job s choices)
   pub floor : ShortOrder s choices → ExactFloors (wide_job s choices)
-  pub plan : (b : ExactReport) → r ≡ answer.Answered b → OptimumWritten (block_job s choices) (optimum_plan (block_job s choices)) kinds operands new_kinds new_operands b
+  pub plan : (b : ExactReport) → r ≡ Ok b → OptimumWritten (block_job s choices) (optimum_plan (block_job s choices)) kinds operands new_kinds new_operands b

@@ -7,7 +7,7 @@ ghost use Rattle.cutting.specs.Job.{InRange, widened};
 ghost use Rattle.cutting.specs.Sides.{rect_of};
 ghost use Rattle.cutting.specs.Exact.{exact_figure};
 ghost use Rattle.cutting.specs.Listed.{listed_weight, pieces_job};
-ghost use Rattle.promises.specs.declared.Checked.TheVariants.{Passed};
+ghost use Rattle.promises.specs.Refusals.{passed};
 ghost use Rattle.job.specs.Block.{job_of};
 ghost use Rattle.table.specs.States.{figure_at};
 ghost use Rattle.states.specs.States.{under};
@@ -17,29 +17,25 @@ ghost use Rattle.exact.specs.Clauses.{StatesCounted, stride, Statable, Stated, C
 
 use cutting::Sides;
 use pieces::{list_pieces, plate_of};
-use promises::{
-    BoundAnswer, BoundReport, Checked, Choices, ExactAnswer, ExactReport, JobRecord, Refusal,
-    WriteAnswer,
-};
+use promises::{BoundReport, Choices, ExactReport, JobRecord, Refusal, WriteReport};
+use refusal::refuse_if;
 use state_fill::fill_states;
 use storage::{Layout, lay_out};
 use writer::{Sawing, plan_of_pieces, table_of};
 
-// The product of the demands, each plus 1, and for each kind that of the kinds up to it. It stops growing above 4,096.
-fn count_states(job: JobRecord, blocks: &mut [u32; 64]) -> u32
+// The last state of an order, one below the product of the demands, each plus 1: refusal 30 where the product is above 4,096. Lists for each
+// kind the number of states of the kinds up to it.
+fn count_states(job: JobRecord, blocks: &mut [u32; 64]) -> Result<u16, Refusal>
     requires { InRange (job_of job) × (length blocks.old ≡ 64) }
-    ensures { StatesCounted (job_of job) blocks.old blocks.new result }
+    ensures { StatesCounted (job_of job) blocks.new result }
 {
     let mut product: u32 = 1;
-    for i in 0..job.count {
-        let k = i as usize;
-        product = product * ((job.demands[k] as u32) + 1);
-        if 4096 < product {
-            return product;
-        }
+    for k in 0..job.count as usize {
+        product *= job.demands[k] as u32 + 1;
+        refuse_if(4096 < product, Refusal::DemandProduct)?;
         blocks[k] = product;
     }
-    product
+    Ok((product - 1) as u16)
 }
 
 // The state of one copy of a kind: the number of states of the kinds below it.
@@ -58,8 +54,8 @@ fn put_states(pieces: &mut [u32; 640], count: u16, blocks: &[u32])
     requires { Statable pieces.old count blocks.now }
     ensures { Stated count (stride blocks.now) pieces.old pieces.new }
 {
-    for i in 0..count {
-        let at = 5 * (i as usize);
+    for i in 0..count as usize {
+        let at = 5 * i;
         let kind = (pieces[at + 4] / 2) as usize;
         pieces[at + 3] = one_copy(blocks, kind);
     }
@@ -84,7 +80,7 @@ fn states_of_pieces(
     widths: &mut [u16],
     floors: &mut [u16],
     table: &mut [u64],
-) -> BoundAnswer
+) -> Result<BoundReport, Refusal>
     requires { Countable (pieces_job (rect_of plate) count pieces.now) blocks.now last.digit last.state floors.old }
     ensures { Filled (pieces_job (rect_of plate) count pieces.now) (figure_at (pieces_job (rect_of plate) count pieces.now) (under blocks.now last.digit) (listed_weight pieces.now)) last.state
         (lent lengths.old widths.old table.old)
@@ -93,45 +89,38 @@ fn states_of_pieces(
     let q = last.state;
     let cell = (q as u32) + 1;
     let room = table.len();
-    let layout = lay_out(plate, count, pieces, q, cell, lengths, widths, floors, room);
-    match layout {
-        Layout::Refused(r) => BoundAnswer::Refused(r),
-        Layout::Ready(size, words) => {
-            fill_states(
-                size,
-                last.digit,
-                cell as usize,
-                blocks,
-                pieces,
-                &lengths[..],
-                &widths[..],
-                &floors[..],
-                table,
-            );
-            let bound = table[words - 1];
-            BoundAnswer::Answered(BoundReport {
-                bound: bound,
-                capacity: q,
-                length_count: size.rows,
-                columns: size.columns,
-            })
-        }
-    }
+    let Layout { size, words } = lay_out(
+        plate, count, pieces, q, cell, lengths, widths, floors, room,
+    )?;
+    fill_states(
+        size,
+        last.digit,
+        cell as usize,
+        blocks,
+        pieces,
+        &lengths[..],
+        &widths[..],
+        &floors[..],
+        table,
+    );
+    Ok(BoundReport {
+        bound: table[words - 1],
+        capacity: q,
+        length_count: size.rows,
+        columns: size.columns,
+    })
 }
 
-// What the writing of the plan answers, as this call says it.
-fn exact_of(written: WriteAnswer) -> ExactAnswer
+// What the writing of the plan reports, as this call says it.
+fn exact_of(written: WriteReport) -> ExactReport
     ensures { result ≡ exact_of written }
 {
-    match written {
-        WriteAnswer::Refused(r) => ExactAnswer::Refused(r),
-        WriteAnswer::Written(report) => ExactAnswer::Answered(ExactReport {
-            optimum: report.bound,
-            states: (report.capacity as u32) + 1,
-            length_count: report.length_count,
-            columns: report.columns,
-            nodes: report.nodes,
-        }),
+    ExactReport {
+        optimum: written.bound,
+        states: written.capacity as u32 + 1,
+        length_count: written.length_count,
+        columns: written.columns,
+        nodes: written.nodes,
     }
 }
 
@@ -145,9 +134,9 @@ fn exact_accepted(
     table: &mut [u64],
     kinds: &mut [u8],
     operands: &mut [u16],
-) -> ExactAnswer
+) -> Result<ExactReport, Refusal>
     requires { Short (job_of job) blocks.now q }
-    ensures memory { ExactLeaves Passed (widened (job_of job)) (exact_figure (widened (job_of job))) q
+    ensures memory { ExactLeaves passed (widened (job_of job)) (exact_figure (widened (job_of job))) q
         (lent normal_lengths.old normal_widths.old table.old) (lent normal_lengths.new normal_widths.new table.new) }
     ensures plan { Drawn (room_verdict (job_of job) q (lent normal_lengths.old normal_widths.old table.old) kinds.old operands.old)
         (job_report (job_of job) q) (job_plan (job_of job) q) kinds.old operands.old kinds.new operands.new result }
@@ -159,7 +148,7 @@ fn exact_accepted(
     put_states(&mut pieces, count, &blocks[..]);
     let d = job.count as usize - 1;
     let mut floors = [0u16; 2042];
-    let filled = states_of_pieces(
+    let report = states_of_pieces(
         plate,
         count,
         &pieces,
@@ -169,26 +158,25 @@ fn exact_accepted(
         normal_widths,
         &mut floors,
         table,
-    );
-    match filled {
-        BoundAnswer::Refused(r) => ExactAnswer::Refused(r),
-        BoundAnswer::Answered(report) => exact_of(plan_of_pieces(
-            Sawing {
-                size: table_of(plate, count, report),
-                report: report,
-                d: d,
-                kerf: job.kerf,
-            },
-            &pieces,
-            &normal_lengths[..],
-            &normal_widths[..],
-            &floors[..],
-            &table[..],
-            &blocks[..],
-            kinds,
-            operands,
-        )),
-    }
+    )?;
+    let sawing = Sawing {
+        size: table_of(plate, count, report),
+        report,
+        d,
+        kerf: job.kerf,
+    };
+    let written = plan_of_pieces(
+        sawing,
+        &pieces,
+        &normal_lengths[..],
+        &normal_widths[..],
+        &floors[..],
+        &table[..],
+        &blocks[..],
+        kinds,
+        operands,
+    )?;
+    Ok(exact_of(written))
 }
 
 // The optimum of a job block and the plan that earns it, in preorder in the two plan arrays. No guillotine tree on the plate that keeps
@@ -201,23 +189,12 @@ pub fn exact(
     table: &mut [u64],
     kinds: &mut [u8],
     operands: &mut [u16],
-) -> ExactAnswer
+) -> Result<ExactReport, Refusal>
     ensures { ExactPromises block.now choices (lent lengths.old widths.old table.old)
         (lent lengths.new widths.new table.new) kinds.old operands.old kinds.new operands.new result }
 {
-    let read = job::read_job(block, choices);
-    let verdict = read.verdict;
-    if let Checked::Refused(r) = verdict {
-        return ExactAnswer::Refused(r);
-    }
-    let record = read.job;
+    let job = job::read_job(block, choices)?;
     let mut blocks = [0u32; 64];
-    let states = count_states(record, &mut blocks);
-    if 4096 < states {
-        return ExactAnswer::Refused(Refusal::DemandProduct);
-    }
-    let last = (states - 1) as u16;
-    exact_accepted(
-        record, last, &blocks, lengths, widths, table, kinds, operands,
-    )
+    let last = count_states(job, &mut blocks)?;
+    exact_accepted(job, last, &blocks, lengths, widths, table, kinds, operands)
 }

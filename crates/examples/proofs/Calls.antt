@@ -1,7 +1,7 @@
 -- What the bound calls, the writing and certificate calls answer on an accepted job block and weights, and the neat call on a plan that passes, where
 -- the lengths of what is lent are known.
 -- The bound comes from cuts at normal positions, which are quick to compute; cuts at every unit take long.
-use Rattle.examples.proofs.Prelude.{◌≡◌, subst, false, ◌||◌, List, [], ◌∷◌, ◌++◌, ℕ, ◌+◌, ◌-◌, ◌≤◌, arith, ltb, length, lt-ltb, le-ltb, Length, Width, most_limit, figure, saw_normal, node_count, capacity, pieces, by_kind, bound_of, normal_side, range_solid, widened_solid, NoneFiner, staged_bound, NoneStagedFiner, staged_finer, staged_holds, figure_normal, first_refusal, Passed, Refused, TableShort, Choices, outside, block_job, weight_in, Accepted, accepted_in_range, plan_answer, JobPasses, block_neat, neat_said, position_count, words_needed, staged_words, Memory, wide_job, memory_checks, bound_said, report_values, bound_held, staged_block_report, staged_said, block_plan, write_said, compared, certificate_of, certificate_said, old_block, LongLists, Enough, TooShort}
+use Rattle.examples.proofs.Prelude.{◌≡◌, subst, false, ◌||◌, List, [], ◌∷◌, ◌++◌, ℕ, ◌+◌, ◌-◌, ◌≤◌, arith, ltb, length, lt-ltb, le-ltb, Length, Width, most_limit, figure, saw_normal, node_count, capacity, pieces, by_kind, bound_of, normal_side, range_solid, widened_solid, NoneFiner, staged_bound, NoneStagedFiner, staged_finer, staged_holds, figure_normal, first_refusal, TableShort, Choices, outside, block_job, weight_in, Accepted, accepted_in_range, plan_answer, JobPasses, block_neat, neat_said, position_count, words_needed, staged_words, Memory, wide_job, memory_checks, bound_said, bound_values, bound_held, staged_block_report, staged_said, block_plan, write_said, compared, plan_profit, certificate_of, certificate_said, old_block, LongLists, Enough, TooShort, Ok, Err, passed, verdict_of}
 
 module _ (choices : Choices) (s ws : List ℕ) where
   -- the capacity of a job block and weights
@@ -23,7 +23,7 @@ module _ (choices : Choices) (s ws : List ℕ) where
   -- the values of a plan's certificate: the gap, the bound and the profit
   abbrev pub certificate_in : (kinds operands : List ℕ) → List ℕ
   certificate_in kinds operands =
-      let profit = (plan_answer (block_job s choices) kinds operands).report.profit in
+      let profit = plan_profit (block_job s choices) kinds operands in
       (bound_in - profit) ∷ bound_in ∷ profit ∷ []
 
   module _ (good : Accepted s choices ws) where
@@ -40,7 +40,7 @@ module _ (choices : Choices) (s ws : List ℕ) where
       lists_pass h = simp (le-ltb (length m.lengths) ((wide_job s choices).plate.0 + 1) (omega (arith, h)), le-ltb (length m.widths) ((wide_job s choices).plate.1 + 1) (omega (arith, h)))
 
       -- check 20 refuses
-      table_short : TooShort s choices words_in m → first_refusal (memory_checks (wide_job s choices) capacity_in m) ≡ Refused (TableShort words_in)
+      table_short : TooShort s choices words_in m → first_refusal (memory_checks (wide_job s choices) capacity_in m) ≡ Err (TableShort words_in)
       unfolding first_refusal
       table_short h = simp (lists_pass h.0, lt-ltb (length m.table) words_in h.1)
 
@@ -49,18 +49,18 @@ module _ (choices : Choices) (s ws : List ℕ) where
 
       module _ (enough : Enough s choices words_in m) where
         -- both pass
-        storage_passes : first_refusal (memory_checks (wide_job s choices) capacity_in m) ≡ Passed
+        storage_passes : first_refusal (memory_checks (wide_job s choices) capacity_in m) ≡ passed
         unfolding first_refusal
         storage_passes = simp (lists_pass enough.0, le-ltb (length m.table) words_in enough.1)
 
         pub bound_answered : bound_said s choices ws m ≡ (0, values_in)
         bound_answered = simp (good, storage_passes, bound_normal)
 
-        pub judged : (kinds operands : List ℕ) → (plan_answer (block_job s choices) kinds operands).verdict ≡ Passed
-            → certificate_of s choices ws kinds operands m ≡ compared (plan_answer (block_job s choices) kinds operands).report.profit bound_in
+        pub judged : (kinds operands : List ℕ) → verdict_of (plan_answer (block_job s choices) kinds operands) ≡ passed
+            → certificate_of s choices ws kinds operands m ≡ Ok (compared (plan_profit (block_job s choices) kinds operands) bound_in)
         judged kinds operands e = simp (good, e, storage_passes, bound_normal)
 
-        pub certified : (kinds operands : List ℕ) → (plan_answer (block_job s choices) kinds operands).verdict ≡ Passed
+        pub certified : (kinds operands : List ℕ) → verdict_of (plan_answer (block_job s choices) kinds operands) ≡ passed
             → certificate_said s choices ws kinds operands m ≡ (0, certificate_in kinds operands)
         certified kinds operands e = simp (good, e, storage_passes, bound_normal)
 
@@ -70,7 +70,7 @@ module _ (choices : Choices) (s ws : List ℕ) where
         written kinds operands h k o = simp (good, storage_passes, bound_normal, le-ltb 4095 (node_count (block_plan s choices ws)) h, le-ltb (length kinds) (node_count (block_plan s choices ws)) k, le-ltb (length operands) (node_count (block_plan s choices ws)) o)
 
 -- the neat call answers the node count where the output arrays are long enough
-pub neatened : (s : List ℕ) → JobPasses s old_block → (kinds operands : List ℕ) → (plan_answer (block_job s old_block) kinds operands).verdict ≡ Passed
+pub neatened : (s : List ℕ) → JobPasses s old_block → (kinds operands : List ℕ) → verdict_of (plan_answer (block_job s old_block) kinds operands) ≡ passed
     → (ks os : List ℕ) → node_count (block_neat s old_block kinds operands) ≤ length ks → node_count (block_neat s old_block kinds operands) ≤ length os
     → neat_said s old_block kinds operands ks os ≡ (0, node_count (block_neat s old_block kinds operands) ∷ [])
 unfolding first_refusal
@@ -78,7 +78,7 @@ neatened s good kinds operands e ks os k o = simp (good, e, le-ltb (length ks) (
 
 -- the staged bound call, where its limit is within its range
 pub staged_answered : (s ws : List ℕ) (limit : ℕ) → Accepted s old_block ws → outside 1 most_limit limit ≡ false → (m : Memory) → Enough s old_block (staged_words (wide_job s old_block) (capacity_in old_block s ws) limit) m
-    → staged_said s old_block ws limit m ≡ (0, report_values (staged_block_report s old_block ws limit))
+    → staged_said s old_block ws limit m ≡ (0, bound_values (staged_block_report s old_block ws limit))
 unfolding first_refusal
 staged_answered s ws limit good inside m h =
     simp (good, inside, lists_pass old_block s ws good m h.0, le-ltb (length m.table) (staged_words (wide_job s old_block) (capacity_in old_block s ws) limit) h.1)

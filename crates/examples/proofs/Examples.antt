@@ -1,5 +1,5 @@
 -- The table of marked examples holds: what is left to compute of each line, the law that a line so computed holds, and the computations.
-use Rattle.examples.proofs.Prelude.{◌≡◌, refl, ◌∙◌, ap, subst, false, ◌⊎◌, inl, inr, List, [], ◌∷◌, List-as-Memᴰ, List·Memᴰ·not-nil, List·Memᴰ·cases-cons, ℕ, ◌≤◌, arith, le-ltb, Direction, Length, Width, most_limit, range, sum, filter, each, any, greatest, total, leaf, best, step, after, figure, sized, floor, saw_normal, saw_written, by_weight, stages, stages_below, NoneAbove, changes, along, block, staged_bound, NoneStaged, summed, normal?, sides, choice, plan_within, written, sawn, preorder, kinds_of, operands_of, node_count, used, neat, finer, ordered, members, pieces, normal_positions, lossless_plan, plan_of, first_refusal, Passed, staged_words, wide_job, report_values, staged_block_report, outside, price_at, demand_at, each_kind, job_checks, entries, record_of, block_job, weight_in, Accepted, pieceless, idle_checks, walk, walk_answer, plan_answer, trees_in, JobPasses, saw_checks, extent, node_paths, above_checks, block_neat, block_plan, compared, Example, old_block, RefusedAs, PassedTo, ExampleHolds, misfit_job, marked}
+use Rattle.examples.proofs.Prelude.{◌≡◌, refl, ◌∙◌, ap, subst, false, ◌⊎◌, inl, inr, List, [], ◌∷◌, List-as-Memᴰ, List·Memᴰ·not-nil, List·Memᴰ·cases-cons, ℕ, ◌≤◌, arith, le-ltb, Direction, Length, Width, most_limit, range, sum, filter, each, any, greatest, total, leaf, best, step, after, figure, sized, floor, saw_normal, saw_written, by_weight, stages, stages_below, NoneAbove, changes, along, block, staged_bound, NoneStaged, summed, normal?, sides, choice, plan_within, written, sawn, preorder, kinds_of, operands_of, node_count, used, neat, finer, ordered, members, pieces, normal_positions, lossless_plan, plan_of, first_refusal, staged_words, wide_job, bound_values, staged_block_report, outside, price_at, demand_at, each_kind, job_checks, entries, record_of, block_job, weight_in, Accepted, pieceless, idle_checks, walk, walk_answer, plan_answer, trees_in, JobPasses, saw_checks, extent, node_paths, above_checks, block_neat, block_plan, compared, plan_profit, Example, old_block, RefusedAs, PassedTo, ExampleHolds, misfit_job, marked, Ok, passed, verdict_of}
 use Rattle.examples.specs.Examples as line
 use Rattle.examples.proofs.Calls as call
 use Rattle.examples.proofs.Calls.{capacity_in, words_in, bound_in, values_in, certificate_in}
@@ -18,17 +18,17 @@ Computed (line.refused s kinds operands number place) = ExampleHolds (line.refus
 Computed (line.first_refused s kind operand number place) = JobPasses s old_block × RefusedAs number place (first_verdict (block_job s old_block) kind operand)
 Computed (line.first_passes s kind operand) = JobPasses s old_block × PassedTo 0 (first_verdict (block_job s old_block) kind operand)
 Computed (line.certifies choices s ws kinds operands words certificate gap bound profit) =
-    Accepted s choices ws × (words_in choices s ws ≡ words) × ((plan_answer (block_job s choices) kinds operands).verdict ≡ Passed)
-    × (compared (plan_answer (block_job s choices) kinds operands).report.profit (bound_in choices s ws) ≡ certificate) × (certificate_in choices s ws kinds operands ≡ gap ∷ bound ∷ profit ∷ [])
+    Accepted s choices ws × (words_in choices s ws ≡ words) × (verdict_of (plan_answer (block_job s choices) kinds operands) ≡ passed)
+    × (compared (plan_profit (block_job s choices) kinds operands) (bound_in choices s ws) ≡ certificate) × (certificate_in choices s ws kinds operands ≡ gap ∷ bound ∷ profit ∷ [])
 Computed (line.neatens s kinds operands nodes neat_kinds neat_operands) =
-    JobPasses s old_block × ((plan_answer (block_job s old_block) kinds operands).verdict ≡ Passed) × (node_count (block_neat s old_block kinds operands) ≡ nodes)
+    JobPasses s old_block × (verdict_of (plan_answer (block_job s old_block) kinds operands) ≡ passed) × (node_count (block_neat s old_block kinds operands) ≡ nodes)
     × (kinds_of (block_neat s old_block kinds operands) ≡ neat_kinds) × (operands_of (block_neat s old_block kinds operands) ≡ neat_operands)
 Computed (line.saw_passes s kinds operands pieces waste trim copies sawdust) = ExampleHolds (line.saw_passes s kinds operands pieces waste trim copies sawdust)
 Computed (line.part s kinds operands node first entries) = ExampleHolds (line.part s kinds operands node first entries)
 Computed (line.stages_pass s limit kinds operands profit pieces waste trim copies sawdust stages) = ExampleHolds (line.stages_pass s limit kinds operands profit pieces waste trim copies sawdust stages)
 Computed (line.stages_refused s limit kinds operands number place) = ExampleHolds (line.stages_refused s limit kinds operands number place)
 Computed (line.stages_bound s ws limit words bound q p r) =
-    Accepted s old_block ws × (outside 1 most_limit limit ≡ false) × (staged_words (wide_job s old_block) (capacity_in old_block s ws) limit ≡ words) × (report_values (staged_block_report s old_block ws limit) ≡ bound ∷ q ∷ p ∷ r ∷ [])
+    Accepted s old_block ws × (outside 1 most_limit limit ≡ false) × (staged_words (wide_job s old_block) (capacity_in old_block s ws) limit ≡ words) × (bound_values (staged_block_report s old_block ws limit) ≡ bound ∷ q ∷ p ∷ r ∷ [])
 Computed (line.finer_most choices s ws m most) = Accepted s choices ws × (1 ≤ m) × (bound_in choices s ws ≡ most)
 Computed (line.finer_stages s ws limit m most) = Accepted s old_block ws × (1 ≤ m) × (staged_bound (block_job s old_block) (weight_in ws) limit ≡ most)
 Computed (line.finer_passes s m kinds operands profit neat_kinds neat_operands) = ExampleHolds (line.finer_passes s m kinds operands profit neat_kinds neat_operands)
@@ -48,7 +48,7 @@ holds (line.refused s kinds operands number place) c = c
 holds (line.first_refused s kind operand number place) c = begins_refused s c.0 kind operand number place c.1
 holds (line.first_passes s kind operand) c = begins_passed s c.0 kind operand c.1
 holds (line.certifies choices s ws kinds operands words certificate gap bound profit) c =
-    λ m h. (call.judged choices s ws c.0 m (rw c.1 h) kinds operands c.2 ∙ c.3, call.certified choices s ws c.0 m (rw c.1 h) kinds operands c.2 ∙ ap (λ vs. (0, vs)) c.4)
+    λ m h. (call.judged choices s ws c.0 m (rw c.1 h) kinds operands c.2 ∙ ap Ok c.3, call.certified choices s ws c.0 m (rw c.1 h) kinds operands c.2 ∙ ap (λ vs. (0, vs)) c.4)
 holds (line.neatens s kinds operands nodes neat_kinds neat_operands) c = (λ ks os k o. call.neatened s c.0 kinds operands c.1 ks os (rw c.2 k) (rw c.2 o) ∙ ap (λ n. (0, n ∷ [])) c.2, c.3, c.4)
 holds (line.saw_passes s kinds operands pieces waste trim copies sawdust) c = c
 holds (line.part s kinds operands node first entries) c = c
@@ -156,7 +156,7 @@ computed =
     and (refl, omega arith, refl)
     and (refl, omega arith, refl)
     and (refl, omega arith, refl)
-    and (refl, refl, refl, refl)
+    and (refl, refl, refl)
     and done
 
 -- every marked example holds

@@ -4,15 +4,14 @@ pub use borrow.Author.Tests.{le-ltb, lt-ltb}
 pub use lib.Dec.{leb, ltb}
 pub use lib.ListN.{length}
 pub use mathlib.Core.Bool.{Bool, ◌||◌, false, true}
-pub use mathlib.Core.List.Memᴰ.{cases_cons as List·Memᴰ·cases-cons}
-pub use mathlib.Core.List.Memᴰ.{not-nil as List·Memᴰ·not-nil}
+pub use mathlib.Core.List.Memᴰ.{cases_cons as List·Memᴰ·cases-cons, not-nil as List·Memᴰ·not-nil}
 pub use mathlib.Core.List.{List, Memᴰ as List-as-Memᴰ, [], ◌++◌, ◌∷◌}
 pub use mathlib.Core.Logic.{◌⊎◌, inl, inr}
 pub use mathlib.Core.Path.{◌∙◌, ◌≡◌, ap, refl, subst, sym}
 pub use native.Mathlib.Omega.{arith}
 pub use Rattle.bound.proofs.Holds.{bound_held}
-pub use Rattle.bound.specs.Bound.{Memory, bound_said, memory_checks, report_values, wide_job}
-pub use Rattle.certificate.specs.Certificate.{certificate_of, certificate_said, compared}
+pub use Rattle.bound.specs.Bound.{Memory, bound_said, bound_values, memory_checks, wide_job}
+pub use Rattle.certificate.specs.Certificate.{certificate_of, certificate_said, compared, plan_profit}
 pub use Rattle.cutting.proofs.Finer.{staged_finer}
 pub use Rattle.cutting.proofs.Members.{range_solid, widened_solid}
 pub use Rattle.cutting.proofs.Staged.{staged_holds}
@@ -44,17 +43,14 @@ pub use Rattle.job.specs.Block.{demand_at, outside, price_at}
 unfoldable pub use Rattle.job.specs.Block.{each_kind, entries, job_checks, record_of}
 pub use Rattle.job.specs.Weights.{Accepted, block_job, weight_in}
 pub use Rattle.neat.specs.Neat.{block_neat, neat_said}
-pub use Rattle.plan.proofs.Whole.{verdict_is, walks_on}
+pub use Rattle.plan.proofs.Whole.{walks_on}
 pub use Rattle.plan.specs.Calls.{JobPasses}
 pub use Rattle.plan.specs.Plan.{empty_report, node_checks, node_of, nodes_in, proceed}
 unfoldable pub use Rattle.plan.specs.Plan.{plan_answer, walk, walk_answer}
 unfoldable pub use Rattle.plan.specs.Trees.{trees_in}
-pub use Rattle.promises.specs.declared.Checked.{Checked}
-pub use Rattle.promises.specs.declared.Checked.TheVariants.{Passed, Refused}
 pub use Rattle.promises.specs.declared.Choices.{Choices}
 pub use Rattle.promises.specs.declared.Direction.{Direction}
 pub use Rattle.promises.specs.declared.Direction.TheVariants.{Length, Width}
-pub use Rattle.promises.specs.declared.PlanAnswer.{PlanAnswer}
 pub use Rattle.promises.specs.declared.Refusal.{Refusal}
 pub use Rattle.promises.specs.declared.Refusal.TheVariants.{IdleCut, TableShort}
 pub use Rattle.promises.specs.declared.Report.{Report}
@@ -69,3 +65,5 @@ pub use Rattle.table.specs.Table.{position_count, words_needed}
 pub use Rattle.writer.specs.Write.{block_plan, write_said}
 pub use Rattle.examples.specs.Examples.{Beginning, Enough, Example, ExampleHolds, LongLists, PassedTo, RefusedAs, TooShort, misfit_job, old_block}
 unfoldable pub use Rattle.examples.specs.Examples.{marked}
+pub use Rattle.std.proofs.Common.{Ok, Err}
+pub use Rattle.promises.specs.Refusals.{Checked, Answer, passed, verdict_of}

@@ -1,6 +1,7 @@
 -- The marked examples of the scope as one table, in its order. A job is its block's bytes, and each line says what a call answers on them,
 -- as a number and values. That every line holds is `marked_hold` of proofs/Examples.
-use Rattle.std.specs.Prelude.{◌≡◌, true, false, List, [], ◌∷◌, ◌++◌, ℕ, ◌-◌, ◌≤◌, ◌<◌, length, replicate}
+use Rattle.std.specs.Prelude.{◌≡◌, true, false, List, [], ◌∷◌, ◌++◌, ℕ, ◌-◌, ◌≤◌, ◌<◌, length, replicate, Ok}
+use Rattle.std.specs.Result.{IsOkAnd, IsErrAnd, IfErr}
 use Rattle.promises.specs.declared.Direction.{Direction}
 use Rattle.promises.specs.declared.Direction.TheVariants.{Length, Width}
 use Rattle.cutting.specs.Limits.{most_kinds, most_nodes}
@@ -8,9 +9,7 @@ use Rattle.cutting.specs.Job.{finer, bound_of, normal_positions}
 use Rattle.cutting.specs.Preorder.{kinds_of, operands_of}
 use Rattle.cutting.specs.Promises.{NoneAbove}
 use Rattle.cutting.specs.Staged.{staged_bound, NoneStaged}
-use Rattle.refusal.specs.Refusals.{number_of, place_of, refused_as}
-use Rattle.promises.specs.declared.Checked.{Checked}
-use Rattle.promises.specs.declared.Checked.TheVariants.{Passed, Refused}
+use Rattle.refusal.specs.Refusals.{Answer, number_of, place_of, refused_as}
 use Rattle.promises.specs.declared.Choices.{Choices}
 use Rattle.job.specs.Block.{with_full_demand}
 use Rattle.job.specs.Weights.{block_job, weight_in, Accepted}
@@ -26,6 +25,7 @@ use Rattle.writer.specs.Write.{block_plan, write_said}
 use Rattle.promises.specs.declared.Certificate.{Certificate}
 use Rattle.promises.specs.declared.Certificate.TheVariants.{Best, Gap}
 use Rattle.certificate.specs.Certificate.{certificate_of, certificate_said}
+use Rattle.promises.specs.declared.Report.{Report}
 
 -- what a line can say of a call, with its choices where it weighs; a plan is given by its kinds and operands, and `words` are the table
 -- words that a call needs
@@ -94,19 +94,17 @@ Enough s choices words m = LongLists s choices m × (words ≤ length m.table)
 abbrev pub TooShort : List ℕ → Choices → ℕ → Memory → Type 0
 TooShort s choices words m = LongLists s choices m × (length m.table < words)
 
--- a verdict that is a refusal with a number and a place
-abbrev pub RefusedAs : ℕ → ℕ → Checked → Type 0
-RefusedAs number place Passed = ⊥
-RefusedAs number place (Refused r) = refused_as r ≡ (number, place ∷ [])
+-- an answer that is a refusal with a number and a place
+abbrev pub RefusedAs : {A : Type 0} → ℕ → ℕ → Answer A → Type 0
+RefusedAs number place a = IsErrAnd a (λ r. refused_as r ≡ (number, place ∷ []))
 
--- a verdict that refuses no node up to node k, unless for an idle cut
-abbrev pub PassedTo : ℕ → Checked → Type 0
-PassedTo k Passed = Unit {0}
-PassedTo k (Refused r) = (number_of r ≡ 26 → ⊥) → k < place_of r
+-- an answer that refuses no node up to node k, unless for an idle cut
+abbrev pub PassedTo : {A : Type 0} → ℕ → Answer A → Type 0
+PassedTo k a = IfErr a (λ r. (number_of r ≡ 26 → ⊥) → k < place_of r)
 
--- the verdict of every plan with this first node, as many kinds as operands and at most 4,095 nodes, has a property
-abbrev pub Beginning : List ℕ → ℕ → ℕ → (Checked → Type 0) → Type 0
-Beginning s kind operand P = (kinds operands : List ℕ) → length kinds ≡ length operands → length kinds < most_nodes → P (arrays_answer s old_block (kind ∷ kinds) (operand ∷ operands)).verdict
+-- the answer for every plan with this first node, as many kinds as operands and at most 4,095 nodes, has a property
+abbrev pub Beginning : List ℕ → ℕ → ℕ → (Answer Report → Type 0) → Type 0
+Beginning s kind operand P = (kinds operands : List ℕ) → length kinds ≡ length operands → length kinds < most_nodes → P (arrays_answer s old_block (kind ∷ kinds) (operand ∷ operands))
 
 -- copies as a report has them: 64 numbers, 0 past the job's kinds
 abbrev pub padded : List ℕ → List ℕ
@@ -126,12 +124,12 @@ ExampleHolds (writes choices s ws words bound q p r nodes kinds operands) =
     ((m : Memory) (ks os : List ℕ) → Enough s choices words m → nodes ≤ length ks → nodes ≤ length os → write_said s choices ws m ks os ≡ (0, bound ∷ q ∷ p ∷ r ∷ nodes ∷ []))
     × (kinds_of (block_plan s choices ws) ≡ kinds) × (operands_of (block_plan s choices ws) ≡ operands)
 ExampleHolds (passes choices s kinds operands profit copies pieces waste trim sawdust) =
-    arrays_answer s choices kinds operands ≡ record { verdict = Passed; report = record { profit = profit; copies = padded copies; pieces = pieces; waste = waste; trim = trim; sawdust = sawdust } }
-ExampleHolds (refused s kinds operands number place) = RefusedAs number place (arrays_answer s old_block kinds operands).verdict
+    arrays_answer s choices kinds operands ≡ Ok (record { profit = profit; copies = padded copies; pieces = pieces; waste = waste; trim = trim; sawdust = sawdust })
+ExampleHolds (refused s kinds operands number place) = RefusedAs number place (arrays_answer s old_block kinds operands)
 ExampleHolds (first_refused s kind operand number place) = Beginning s kind operand (RefusedAs number place)
 ExampleHolds (first_passes s kind operand) = Beginning s kind operand (PassedTo 0)
 ExampleHolds (certifies choices s ws kinds operands words certificate gap bound profit) =
-    (m : Memory) → Enough s choices words m → (certificate_of s choices ws kinds operands m ≡ certificate) × (certificate_said s choices ws kinds operands m ≡ (0, gap ∷ bound ∷ profit ∷ []))
+    (m : Memory) → Enough s choices words m → (certificate_of s choices ws kinds operands m ≡ Ok certificate) × (certificate_said s choices ws kinds operands m ≡ (0, gap ∷ bound ∷ profit ∷ []))
 ExampleHolds (neatens s kinds operands nodes neat_kinds neat_operands) =
     ((ks os : List ℕ) → nodes ≤ length ks → nodes ≤ length os → neat_said s old_block kinds operands ks os ≡ (0, nodes ∷ []))
     × (kinds_of (block_neat s old_block kinds operands) ≡ neat_kinds) × (operands_of (block_neat s old_block kinds operands) ≡ neat_operands)
@@ -145,7 +143,7 @@ ExampleHolds (stages_bound s ws limit words bound q p r) = (m : Memory) → Enou
 ExampleHolds (finer_most choices s ws m most) = (bound_of (block_job s choices) (weight_in ws) ≡ most) × NoneAbove (finer m (block_job s choices)) most
 ExampleHolds (finer_stages s ws limit m most) = (staged_bound (block_job s old_block) (weight_in ws) limit ≡ most) × NoneStaged (finer m (block_job s old_block)) limit most
 ExampleHolds (finer_passes s m kinds operands profit neat_kinds neat_operands) =
-    ((plan_answer (finer m (block_job s old_block)) kinds operands).verdict ≡ Passed) × ((plan_answer (finer m (block_job s old_block)) kinds operands).report.profit ≡ profit)
+    IsOkAnd (plan_answer (finer m (block_job s old_block)) kinds operands) (λ r. r.profit ≡ profit)
     × (kinds_of (block_neat s old_block kinds operands) ≡ neat_kinds) × (operands_of (block_neat s old_block kinds operands) ≡ neat_operands)
 ExampleHolds (whatever e) = (pair ws : List ℕ) → Accepted (misfit_job pair) old_block ws → ExampleHolds (e pair ws)
 

@@ -1,5 +1,5 @@
 -- The checks over a tree's kinds are those over its nodes, and they pass exactly where no cut of the tree is idle.
-use Rattle.idle.proofs.Prelude.{◌≡◌, refl, sym, ◌∙◌, ap, ap₂, false, List, [], ◌∷◌, ◌++◌, append_assoc, append-nil, ℕ, zero, suc, ◌+◌, ◌-◌, arith, ltb, eqb, lt-ltb, eqb-false, ne_eqb, Direction, Length, Width, Cut, Tree, waste, piece, cut, total, piece_count, IdleFree, preorder, kind_of, node_count, kinds_of, kinds_cut, count_cut, first_refusal, IdleCut, Passed, cons_passed, append_passed, passed_append, node_of, pieceless_from, pieceless, is_idle, idle_checks, tree_checks}
+use Rattle.idle.proofs.Prelude.{◌≡◌, refl, sym, ◌∙◌, ap, ap₂, false, List, [], ◌∷◌, ◌++◌, append_assoc, append-nil, ℕ, zero, suc, ◌+◌, ◌-◌, arith, ltb, eqb, lt-ltb, eqb-false, ne_eqb, Direction, Length, Width, Cut, Tree, waste, piece, cut, total, piece_count, IdleFree, preorder, kind_of, node_count, kinds_of, kinds_cut, count_cut, first_refusal, IdleCut, cons_passed, append_passed, passed_append, node_of, pieceless_from, pieceless, is_idle, idle_checks, tree_checks, passed}
 use Rattle.cutting.specs.Pieces as laid
 
 -- a tree of so many pieces before n trees without one
@@ -56,7 +56,7 @@ unfolding idle_checks
 idle_tree t k = ap (idle_checks k) (sym (append-nil (kinds_of t))) ∙ checks_tree t k [] ∙ append-nil (tree_checks k t)
 
 -- where they pass, no cut is idle
-pub passed_free : (t : Tree laid.Piece) (k : ℕ) → first_refusal (tree_checks k t) ≡ Passed → IdleFree t
+pub passed_free : (t : Tree laid.Piece) (k : ℕ) → first_refusal (tree_checks k t) ≡ passed → IdleFree t
 unfolding tree_checks
 passed_free waste k p = tt
 passed_free (piece q) k p = tt
@@ -67,7 +67,7 @@ passed_free (cut d x a b) k p =
     (omega (arith, n), passed_free a (k + 1) v.0, passed_free b (k + 1 + node_count a) v.1)
 
 -- and the other way
-pub free_passed : (t : Tree laid.Piece) (k : ℕ) → IdleFree t → first_refusal (tree_checks k t) ≡ Passed
+pub free_passed : (t : Tree laid.Piece) (k : ℕ) → IdleFree t → first_refusal (tree_checks k t) ≡ passed
 unfolding tree_checks first_refusal
 free_passed waste k f = refl
 free_passed (piece q) k f = refl

@@ -1,6 +1,5 @@
 -- What the proofs of this crate take from libraries and from other crates, named once.
 pub use Prim.Native.Nat.{◌+◌, ◌-◌, ◌<◌, ◌≤◌, suc, zero, ℕ}
-pub use borrow.Author.Rules.{rules}
 pub use borrow.Author.Tests.{eqb-false, lt-ltb, ne_eqb}
 pub use lib.Dec.{eqb, ltb}
 pub use lib.ListN.{drop, get_or, length, length-drop}
@@ -17,8 +16,6 @@ pub use Rattle.cutting.specs.Tree.{IdleFree, Tree, cut, piece, piece_count, wast
 unfoldable pub use Rattle.cutting.specs.Tree.{total}
 pub use Rattle.job.proofs.Checks.{append_passed, cons_passed, passed_append}
 pub use Rattle.node.specs.Nodes.{node_of}
-pub use Rattle.promises.specs.declared.Checked.{Checked}
-pub use Rattle.promises.specs.declared.Checked.TheVariants.{Passed}
 pub use Rattle.promises.specs.declared.Direction.{Direction}
 pub use Rattle.promises.specs.declared.Direction.TheVariants.{Length, Width}
 pub use Rattle.promises.specs.declared.Node.{Node}
@@ -28,3 +25,5 @@ pub use Rattle.refusal.specs.Refusals.{next, refuse_when}
 unfoldable pub use Rattle.refusal.specs.Refusals.{first_refusal}
 pub use Rattle.idle.specs.Idle.{is_idle, pieceless_from}
 unfoldable pub use Rattle.idle.specs.Idle.{idle_checks, pieceless, tree_checks}
+pub use Rattle.std.proofs.Common.{Ok, Err}
+pub use Rattle.promises.specs.Refusals.{Checked, passed}

@@ -1,11 +1,17 @@
 -- The steps of the scan: what it knows after the last node, at one node more in front, and at the first.
-use Rattle.idle.proofs.Prelude.{◌≡◌, refl, sym, ◌∙◌, ap, List, [], ◌∷◌, ℕ, ◌+◌, ◌-◌, ◌≤◌, ◌<◌, add-one, arith, length, drop, get_or, length-drop, drop-length, drop-cons, Node, Waste, Piece, Turned, Cut, next, refuse_when, first_refusal, IdleCut, Checked, Passed, node_of, pieceless_from, pieceless, is_idle, idle_checks}
+use Rattle.idle.proofs.Prelude.{◌≡◌, refl, sym, ◌∙◌, ap, List, [], ◌∷◌, ℕ, ◌+◌, ◌-◌, ◌≤◌, ◌<◌, add-one, arith, length, drop, get_or, length-drop, drop-length, drop-cons, Node, Waste, Piece, Turned, Cut, next, refuse_when, first_refusal, IdleCut, node_of, pieceless_from, pieceless, is_idle, idle_checks, Ok, Err, passed, Checked}
+use Rattle.std.specs.Result.{result_and}
 
 from_most : (n : Node) (after most : ℕ) → after ≤ most → pieceless_from n after ≤ most + 1
 from_most Waste after most h = omega arith
 from_most (Piece i) after most h = omega arith
 from_most (Turned i) after most h = omega arith
 from_most (Cut d x) after most h = omega arith
+
+-- a check and then another, as `and` has them
+and_next : (a b : Checked) → result_and a b ≡ next a b
+and_next (Ok _) b = refl
+and_next (Err r) b = refl
 
 -- no more trees than nodes
 pieceless_most : (ks : List ℕ) → pieceless ks ≤ length ks
@@ -20,7 +26,7 @@ pub record Scanned (first : ℕ) (kinds : List ℕ) (verdict : Checked) (trees k
   pub decided : verdict ≡ first_refusal (idle_checks (first + k) (drop k kinds))
   pub counted : trees ≡ pieceless (drop k kinds)
 
-pub begins : (first : ℕ) (kinds : List ℕ) → Scanned first kinds Passed 0 (length kinds)
+pub begins : (first : ℕ) (kinds : List ℕ) → Scanned first kinds passed 0 (length kinds)
 unfolding idle_checks pieceless first_refusal
 begins first kinds = record { inside = omega arith; decided = rw drop-length refl; counted = rw drop-length refl }
 
@@ -40,11 +46,11 @@ module _ {first : ℕ} {kinds : List ℕ} {verdict : Checked} {trees k : ℕ} (s
     here = let e : k - 1 + 1 ≡ k = omega arith in let l : k - 1 < length kinds = omega (arith, s.inside) in
         drop-cons kinds (k - 1) 0 l ∙ ap (λ m. get_or kinds (k - 1) 0 ∷ drop m kinds) (sym (add-one (k - 1)) ∙ e)
 
-    pub goes_on : {v : Checked} {m : ℕ} → v ≡ next (refuse_when (is_idle n trees) (IdleCut (first + (k - 1)))) verdict → m ≡ pieceless_from n trees → Scanned first kinds v m (k - 1)
+    pub goes_on : {v c : Checked} {m : ℕ} → v ≡ result_and c verdict → c ≡ refuse_when (is_idle n trees) (IdleCut (first + (k - 1))) → m ≡ pieceless_from n trees → Scanned first kinds v m (k - 1)
     unfolding idle_checks pieceless first_refusal
-    goes_on {v} {m} d t = let e : first + (k - 1) + 1 ≡ first + k = omega arith in
+    goes_on {v} {c} {m} a d t = let e : first + (k - 1) + 1 ≡ first + k = omega arith in
         record {
           inside = omega (arith, s.inside);
-          decided = d ∙ (λ i. next (refuse_when (is_idle (read i) (s.counted i)) (IdleCut (first + (k - 1)))) ((s.decided ∙ ap (λ j. first_refusal (idle_checks j (drop k kinds))) (sym e)) i)) ∙ sym (ap (λ l. first_refusal (idle_checks (first + (k - 1)) l)) here);
+          decided = a ∙ and_next c verdict ∙ ap (λ x. next x verdict) d ∙ (λ i. next (refuse_when (is_idle (read i) (s.counted i)) (IdleCut (first + (k - 1)))) ((s.decided ∙ ap (λ j. first_refusal (idle_checks j (drop k kinds))) (sym e)) i)) ∙ sym (ap (λ l. first_refusal (idle_checks (first + (k - 1)) l)) here);
           counted = t ∙ (λ i. pieceless_from (read i) (s.counted i)) ∙ sym (ap pieceless here);
         }

@@ -10,7 +10,8 @@ ghost use Rattle.refusal.specs.Refusals.{next, refuse_when, first_refusal};
 ghost use Rattle.idle.specs.Idle.{pieceless_from, is_idle, idle_checks};
 
 use node::decode;
-use promises::{Checked, Node, Refusal};
+use promises::{Node, Refusal};
+use refusal::refuse_if;
 
 // The trees without a piece that begin at a node, from those that begin after it.
 fn pieceless_from(node: Node, after: u16) -> u16
@@ -19,14 +20,8 @@ fn pieceless_from(node: Node, after: u16) -> u16
 {
     match node {
         Node::Waste => after + 1,
-        Node::Piece(_) => 0,
-        Node::Turned(_) => 0,
-        Node::Cut(_, _) => {
-            if 0 < after {
-                return after - 1;
-            }
-            0
-        }
+        Node::Piece(_) | Node::Turned(_) => 0,
+        Node::Cut(_, _) => after.saturating_sub(1),
     }
 }
 
@@ -35,36 +30,24 @@ fn is_idle(node: Node, after: u16) -> bool
     ensures { result ≡ is_idle node after }
 {
     match node {
-        Node::Waste => false,
-        Node::Piece(_) => false,
-        Node::Turned(_) => false,
         Node::Cut(_, _) => 1 < after,
+        _ => false,
     }
-}
-
-// Node k decides where it is idle, and else the nodes after it.
-fn decide(idle: bool, k: u16, after: Checked) -> Checked
-    ensures { result ≡ next (refuse_when idle (IdleCut k)) after }
-{
-    if idle {
-        return Checked::Refused(Refusal::IdleCut(k));
-    }
-    after
 }
 
 // The first idle cut in preorder, of nodes numbered from `first` on.
-pub fn idle_cut(kinds: &[u8], first: usize) -> Checked
+pub fn idle_cut(kinds: &[u8], first: usize) -> Result<(), Refusal>
     requires { first + length kinds.now ≤ most_nodes }
     ensures { result ≡ first_refusal (idle_checks first kinds.now) }
 {
-    let mut verdict = Checked::Passed;
+    let mut verdict = Ok(());
     let mut pieceless: u16 = 0;
     let mut k = kinds.len();
     while 0 < k {
         k -= 1;
         let node = decode(kinds[k], 0);
         let idle = is_idle(node, pieceless);
-        verdict = decide(idle, (first + k) as u16, verdict);
+        verdict = refuse_if(idle, Refusal::IdleCut((first + k) as u16)).and(verdict);
         pieceless = pieceless_from(node, pieceless);
     }
     verdict

@@ -19,10 +19,7 @@ pub use Rattle.cutting.specs.Limits.{most_kerf, most_kinds}
 pub use Rattle.cutting.specs.Lists.{only}
 unfoldable pub use Rattle.cutting.specs.Lists.{range, sum}
 pub use Rattle.cutting.specs.Sides.{rect_of}
-pub use Rattle.promises.specs.declared.Checked.{Checked}
-pub use Rattle.promises.specs.declared.Checked.TheVariants.{Passed, Refused}
 pub use Rattle.promises.specs.declared.Choices.{Choices}
-pub use Rattle.promises.specs.declared.JobAnswer.{JobAnswer}
 pub use Rattle.promises.specs.declared.JobRecord.{JobRecord}
 pub use Rattle.promises.specs.declared.Refusal.{Refusal}
 pub use Rattle.promises.specs.declared.Refusal.TheVariants.{BlockLength, Demand, Grain, Kerf, KindCount, KindSide, PlateSide, Price, ShortHeader}
@@ -34,4 +31,5 @@ pub use Rattle.job.specs.Clauses.{HoldsGrains, header_by, pairs_by}
 pub use Rattle.job.specs.Grain.{Ungrained}
 pub use Rattle.job.specs.Weights.{Accepted, acceptance_of, acceptance_outcome, acceptance_said, block_job, weight_checks, weight_in, weights_answer, weights_outcome, weights_said}
 pub use Rattle.job.specs.declared.Acceptance.{Acceptance}
-pub use Rattle.job.specs.declared.WeightsAnswer.{WeightsAnswer}
+pub use Rattle.std.proofs.Common.{Ok, Err}
+pub use Rattle.promises.specs.Refusals.{Checked, Answer, passed}

@@ -1,6 +1,9 @@
 -- What is known of a job block that passed its checks, of the record that was read from it, and of the answer.
-use Rattle.job.proofs.Prelude.{◌≡◌, refl, sym, ◌∙◌, ap, ap₂, subst, Bool, true, false, ◌||◌, List, [], ◌∷◌, ◌++◌, ℕ, ◌+◌, ◌*◌, ◌≤◌, ◌<◌, arith, ltb-false, eqb-true, not-false, ltb, eqb, length, get_or, InRange, Check, next, first_refusal, outcome_by, Checked, Passed, Refused, Refusal, plate_length_at, plate_width_at, count_at, kerf_at, sizes_end, length_at, width_at, price_at, demand_at, kind_bytes, outside, sides_outside, count_checks, header_checks, plateless_checks, size_check, pair_checks, each_kind, grain_checks, checks_by, job_checks, record_of, empty_record, read_by, read_of, job_values, job_outcome, job_from, job_of, HoldsGrains, header_by, Choices, JobAnswer, JobRecord}
-use Rattle.job.proofs.Checks.{passed_both, first_append, cons_passed, each_passed}
+use Rattle.job.proofs.Prelude.{◌≡◌, refl, sym, ◌∙◌, ap, subst, Bool, true, false, ◌||◌, List, [], ◌∷◌, ◌++◌, ℕ, ◌+◌, ◌*◌, ◌≤◌, ◌<◌, arith, ltb-false, eqb-true, not-false, ltb, eqb, length, get_or, InRange, Check, next, first_refusal, Refusal, plate_length_at, plate_width_at, count_at, kerf_at, sizes_end, length_at, width_at, price_at, demand_at, kind_bytes, outside, sides_outside, count_checks, header_checks, plateless_checks, size_check, pair_checks, each_kind, grain_checks, checks_by, job_checks, record_of, read_of, job_from, job_of, HoldsGrains, header_by, Choices, JobRecord, Ok, Err, passed, Checked, Answer}
+use Rattle.refusal.proofs.Results.{value_answered, refusal_answered}
+use Rattle.job.specs.Block.{short_check}
+use Rattle.refusal.specs.Refusals.{refuse_when}
+use Rattle.job.proofs.Checks.{check_stops, passed_both, first_append, cons_passed, each_passed}
 use Rattle.job.proofs.Entries.{entries_in}
 
 pub or_false : (a b : Bool) → (a || b) ≡ false → (a ≡ false) × (b ≡ false)
@@ -39,7 +42,7 @@ module _ (choices : Choices) (s : List ℕ) where
     pub kerf : kerf_at choices.old_block s ≤ 20
     pub bytes : length s ≡ sizes_bytes + array_bytes
 
-  pub counts_passed : first_refusal (count_checks choices s) ≡ Passed → Counts
+  pub counts_passed : first_refusal (count_checks choices s) ≡ passed → Counts
   counts_passed p =
       let d = cons_passed _ _ _ p in
       let e = cons_passed _ _ _ d.1 in
@@ -51,17 +54,22 @@ module _ (choices : Choices) (s : List ℕ) where
       }
 
   -- the header's numbers where its checks passed
-  pub header_passed : first_refusal (header_checks choices s) ≡ Passed → (((1 ≤ plate_length_at s) × (plate_length_at s ≤ 1000)) × ((1 ≤ plate_width_at s) × (plate_width_at s ≤ 1000))) × Counts
+  pub header_passed : first_refusal (header_checks choices s) ≡ passed → (((1 ≤ plate_length_at s) × (plate_length_at s ≤ 1000)) × ((1 ≤ plate_width_at s) × (plate_width_at s ≤ 1000))) × Counts
   header_passed p = let a = cons_passed _ _ _ (cons_passed _ _ _ p).1 in (both_inside (plate_length_at s) (plate_width_at s) a.0, counts_passed a.1)
 
   -- and without the plate
-  pub plateless_passed : first_refusal (plateless_checks choices s) ≡ Passed → Counts
+  pub plateless_passed : first_refusal (plateless_checks choices s) ≡ passed → Counts
   plateless_passed p = counts_passed (cons_passed _ _ _ p).1
 
   -- and where they passed with the plate or without
-  pub front_passed : (plate : Bool) → first_refusal (header_by plate choices s) ≡ Passed → Counts
+  pub front_passed : (plate : Bool) → first_refusal (header_by plate choices s) ≡ passed → Counts
   front_passed true p = (header_passed p).1
   front_passed false p = plateless_passed p
+
+  -- a block too short is refused first, whether its plate is read or not
+  pub front_stops : (plate : Bool) {a : Checked} {r : Refusal} → a ≡ refuse_when (short_check choices.old_block s).0 (short_check choices.old_block s).1 → a ≡ Err r → a ≡ first_refusal (header_by plate choices s)
+  front_stops true e p = check_stops _ _ _ e p
+  front_stops false e p = check_stops _ _ _ e p
 
   -- such a block has all the bytes of its kinds
   pub counts_hold : (n : ℕ) → n ≡ count_at s → Counts → HoldsGrains choices.grain sizes_bytes s n
@@ -69,7 +77,7 @@ module _ (choices : Choices) (s : List ℕ) where
       let b : sizes_bytes + kind_bytes choices.grain * n ≤ length s = rw e (omega (arith, h.bytes)) in
       ((e, omega (arith, e, h.kinds.1), (sizes_least choices.old_block).1, omega (arith, b, kinds_least choices.grain n)), b)
 
-  pub header_holds : (n : ℕ) → n ≡ count_at s → first_refusal (header_checks choices s) ≡ Passed → HoldsGrains choices.grain sizes_bytes s n
+  pub header_holds : (n : ℕ) → n ≡ count_at s → first_refusal (header_checks choices s) ≡ passed → HoldsGrains choices.grain sizes_bytes s n
   header_holds n e p = counts_hold n e (header_passed p).1
 
 -- a block's checks, whichever checks its header and a pair have
@@ -98,13 +106,13 @@ module _ (head : Choices → List ℕ → List Check) (pair : ℕ → List ℕ �
       ∙ ap (next sizes) (first_append (each_kind (pair end s) 0 (count_at s)) (grain_checks choices.grain end s)))
 
   -- where a block passed, its parts did
-  pub block_passed : first_refusal (checks_by head pair s choices) ≡ Passed → (header ≡ Passed) × (sizes ≡ Passed) × (pairs ≡ Passed)
+  pub block_passed : first_refusal (checks_by head pair s choices) ≡ passed → (header ≡ passed) × (sizes ≡ passed) × (pairs ≡ passed)
   block_passed p =
       let a = passed_both header (next sizes (next pairs grains)) (sym block_parts ∙ p) in
       let b = passed_both sizes (next pairs grains) a.1 in
       (a.0, b.0, (passed_both pairs grains b.1).0)
 
-  module _ (p : first_refusal (checks_by head pair s choices) ≡ Passed) where
+  module _ (p : first_refusal (checks_by head pair s choices) ≡ passed) where
     -- a kind's sides where the block passed
     sides_passed : (i : ℕ) → i < count_at s → ((1 ≤ length_at end s i) × (length_at end s i ≤ 1000)) × ((1 ≤ width_at end s i) × (width_at end s i ≤ 1000))
     sides_passed i h =
@@ -112,7 +120,7 @@ module _ (head : Choices → List ℕ → List Check) (pair : ℕ → List ℕ �
         both_inside (length_at end s i) (width_at end s i) (cons_passed _ _ _ q).0
 
     -- a kind's own checks where the block passed
-    pub pair_passed : (i : ℕ) → i < count_at s → first_refusal (pair end s i) ≡ Passed
+    pub pair_passed : (i : ℕ) → i < count_at s → first_refusal (pair end s i) ≡ passed
     pair_passed i h = each_passed (pair end s) 0 (count_at s) i (block_passed p).2 (omega arith) (omega (arith, h))
 
     -- its job, on whichever plate and at whichever prices, is in the scope's ranges where its header's numbers, the plate, its demands and
@@ -135,7 +143,7 @@ module _ (head : Choices → List ℕ → List Check) (pair : ℕ → List ℕ �
 
 -- a job block's checks, whichever its header has: its job, on whichever plate, is in the scope's ranges where the header's numbers and the
 -- plate are
-pub pairs_range : (head : Choices → List ℕ → List Check) (s : List ℕ) (choices : Choices) → first_refusal (checks_by head pair_checks s choices) ≡ Passed → Counts choices s
+pub pairs_range : (head : Choices → List ℕ → List Check) (s : List ℕ) (choices : Choices) → first_refusal (checks_by head pair_checks s choices) ≡ passed → Counts choices s
     → (l w : ℕ) → ((1 ≤ l) × (l ≤ 1000)) × ((1 ≤ w) × (w ≤ 1000))
     → InRange (job_from l w (record_of s choices).kerf (record_of s choices).turning (record_of s choices).full_demand (record_of s choices).count (record_of s choices).lengths (record_of s choices).widths (record_of s choices).prices (record_of s choices).demands (record_of s choices).grains)
 unfolding record_of
@@ -144,9 +152,9 @@ pairs_range head s choices p h l w plate =
     let pair : (i : ℕ) → i < count_at s → (price_at end s i ≤ 1000000) × (demand_at end s i ≤ 255) = λ i l. (let q = cons_passed _ _ _ (pair_passed head pair_checks s choices p i l) in (ltb-false 1000000 (price_at end s i) q.0, ltb-false 255 (demand_at end s i) (cons_passed _ _ _ q.1).0)) in
     range_by head pair_checks s choices p h l w plate (λ i l. (pair i l).1) (record_of s choices).prices (λ i l. subst (λ x. x ≤ 1000000) (sym (entries_in (price_at end s) (count_at s) i h.kinds.1 l)) (pair i l).0)
 
-module _ (s : List ℕ) (choices : Choices) (p : first_refusal (job_checks s choices) ≡ Passed) where
+module _ (s : List ℕ) (choices : Choices) (p : first_refusal (job_checks s choices) ≡ passed) where
   -- where a job block passed, its parts did
-  pub job_passed : (first_refusal (header_checks choices s) ≡ Passed) × (first_refusal (each_kind (λ i. size_check (sizes_end choices.old_block) s i ∷ []) 0 (count_at s)) ≡ Passed) × (first_refusal (each_kind (pair_checks (sizes_end choices.old_block) s) 0 (count_at s)) ≡ Passed)
+  pub job_passed : (first_refusal (header_checks choices s) ≡ passed) × (first_refusal (each_kind (λ i. size_check (sizes_end choices.old_block) s i ∷ []) 0 (count_at s)) ≡ passed) × (first_refusal (each_kind (pair_checks (sizes_end choices.old_block) s) 0 (count_at s)) ≡ passed)
   unfolding job_checks
   job_passed = block_passed header_checks pair_checks s choices p
 
@@ -157,43 +165,10 @@ module _ (s : List ℕ) (choices : Choices) (p : first_refusal (job_checks s cho
       let h = header_passed choices s job_passed.0 in
       pairs_range header_checks s choices p h.1 (plate_length_at s) (plate_width_at s) h.0
 
--- an answer by a verdict, whichever the checks and the record
-module _ (v : Checked) (j : JobRecord) where
-  pub verdict_by : (read_by v j).verdict ≡ v
-  verdict_by = go v
-    where
-      go : (v : Checked) → (read_by v j).verdict ≡ v
-      go Passed = refl
-      go (Refused r) = refl
+-- what a caller knows from the answer of a job block: where it is a record, the block passed
+module _ (s : List ℕ) (choices : Choices) {a : Answer JobRecord} (e : a ≡ read_of s choices) where
+  pub answered : {j : JobRecord} → a ≡ Ok j → (first_refusal (job_checks s choices) ≡ passed) × (j ≡ record_of s choices)
+  answered p = value_answered (first_refusal (job_checks s choices)) (record_of s choices) (sym e ∙ p)
 
-  -- its number and values are those of the verdict
-  pub said_by : {a : JobAnswer} → a ≡ read_by v j → (a ≡ read_by v j) × (job_outcome a ≡ outcome_by v (job_values j))
-  said_by e = (e, ap (λ a. job_outcome a) e ∙ go v)
-    where
-      go : (v : Checked) → job_outcome (read_by v j) ≡ outcome_by v (job_values j)
-      go Passed = refl
-      go (Refused r) = refl
-
-  -- what a caller knows from an answer that the block passed
-  pub answered_by : {a : JobAnswer} → a ≡ read_by v j → a.verdict ≡ Passed → (v ≡ Passed) × (a.job ≡ j)
-  answered_by e p = let q = sym verdict_by ∙ sym (ap (λ a. a.verdict) e) ∙ p in (q, ap (λ a. a.job) (e ∙ ap (λ v. read_by v j) q))
-
-  -- and from an answer that it was refused
-  pub refused_by : {a : JobAnswer} {x : Refusal} → a ≡ read_by v j → a.verdict ≡ Refused x → v ≡ Refused x
-  refused_by e p = sym verdict_by ∙ sym (ap (λ a. a.verdict) e) ∙ p
-
-  -- the answer where the block passed
-  pub passing : v ≡ Passed → {i : JobRecord} → i ≡ j → ◌≡◌ {A = JobAnswer} (record { verdict = Passed; job = i }) (read_by v j)
-  passing p e = ap (λ i. record { verdict = Passed; job = i }) e ∙ sym (ap (λ v. read_by v j) p)
-
-  -- the answer where it was refused
-  pub refusing : {u : Checked} {x : Refusal} {i : JobRecord} → u ≡ v → u ≡ Refused x → i ≡ empty_record → ◌≡◌ {A = JobAnswer} (record { verdict = u; job = i }) (read_by v j)
-  refusing e p q = ap₂ (λ u i. record { verdict = u; job = i }) p q ∙ sym (ap (λ v. read_by v j) (sym e ∙ p))
-
--- the same for a job block
-module _ (s : List ℕ) (choices : Choices) {a : JobAnswer} (e : a ≡ read_of s choices) where
-  pub answered : a.verdict ≡ Passed → (first_refusal (job_checks s choices) ≡ Passed) × (a.job ≡ record_of s choices)
-  answered = answered_by (first_refusal (job_checks s choices)) (record_of s choices) e
-
-  pub refused : {x : Refusal} → a.verdict ≡ Refused x → first_refusal (job_checks s choices) ≡ Refused x
-  refused = refused_by (first_refusal (job_checks s choices)) (record_of s choices) e
+  pub refused : {x : Refusal} → a ≡ Err x → first_refusal (job_checks s choices) ≡ Err x
+  refused p = refusal_answered (first_refusal (job_checks s choices)) (record_of s choices) (sym e ∙ p)

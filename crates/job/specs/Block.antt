@@ -4,19 +4,17 @@
 use Rattle.std.specs.Prelude.{◌≡◌, Bool, false, List, [], ◌∷◌, ℕ, ltb, eqb, get_or}
 use Rattle.cutting.specs.Limits.{most_demand}
 use Rattle.cutting.specs.Job.{Job}
-use Rattle.refusal.specs.Refusals.{Check, Outcome, first_refusal, by_check, outcome_by}
-use Rattle.promises.specs.declared.Checked.{Checked}
-use Rattle.promises.specs.declared.Checked.TheVariants.{Passed, Refused}
+use Rattle.refusal.specs.Refusals.{Check, Outcome, first_refusal, outcome_by}
 use Rattle.promises.specs.declared.Refusal.TheVariants.{Demand}
 use Rattle.promises.specs.declared.Choices.{Choices}
 use Rattle.promises.specs.declared.JobRecord.{JobRecord}
-use Rattle.promises.specs.declared.JobAnswer.{JobAnswer}
 pub use Rattle.promises.specs.Block.{with_full_demand, with_old_block, u16_at, u32_at, count_at, kerf_at, sizes_end, length_at, width_at, price_at, demand_at, grain_at, kind_bytes, sides_outside, short_check, count_checks, header_checks, plateless_checks, size_check, pair_checks, grain_check, grain_checks, array_checks, checks_by, grains_of, unpriced, empty_record, KerfNone, job_of}
 pub use Rattle.promises.specs.Calls.{job_values}
 pub use Rattle.promises.specs.Refusals.{outside}
 unfoldable pub use Rattle.promises.specs.Block.{job_checks, record_of}
 unfoldable pub use Rattle.promises.specs.Lists.{entries}
 unfoldable pub use Rattle.promises.specs.Refusals.{each_kind}
+use Rattle.promises.specs.Refusals.{Checked, Answer, answer_by, outcome_of}
 
 -- the sizes stand first: the plate's length
 abbrev pub plate_length_at : List ℕ → ℕ
@@ -47,11 +45,11 @@ priced prices j = record {
 }
 
 -- what reading answers by a verdict: a record, or a refusal
-abbrev pub read_by : Checked → JobRecord → JobAnswer
-read_by v j = by_check v (record { verdict = Passed; job = j }) (λ r. record { verdict = Refused r; job = empty_record })
+abbrev pub read_by : Checked → JobRecord → Answer JobRecord
+read_by v j = answer_by v j
 
 -- what reading a block answers: its record, or the first refusal of its checks
-abbrev pub read_of : List ℕ → Choices → JobAnswer
+abbrev pub read_of : List ℕ → Choices → Answer JobRecord
 read_of s choices = read_by (first_refusal (job_checks s choices)) (record_of s choices)
 
 -- two blocks are read alike, each with its choices: the checks of the job are the same, without its plate (a rack's) and without its prices
@@ -67,8 +65,8 @@ abbrev pub KerfNoneRead : List ℕ → Choices → Type 0
 KerfNoneRead s choices = (z : List ℕ) → choices.old_block ≡ false → KerfNone s z → ReadAlike s choices z (with_old_block choices)
 
 -- an answer's number and values
-abbrev pub job_outcome : JobAnswer → Outcome
-job_outcome a = outcome_by a.verdict (job_values a.job)
+abbrev pub job_outcome : Answer JobRecord → Outcome
+job_outcome a = outcome_of job_values a
 
 -- the number and values that reading a block answers
 abbrev pub job_said : List ℕ → Choices → Outcome

@@ -2,8 +2,9 @@
 // Fields are two or four bytes, lowest byte first; specs/Block says where each stands and when a block is refused.
 #![tactic(auto)]
 
-ghost use Rattle.std.specs.Prelude.{◌≡◌, true, false, ◌||◌, ◌&&◌, not, [], ◌∷◌, ℕ, ◌+◌, ◌*◌, ◌/◌, ◌≤◌, ◌<◌, eqb, length, get_or};
-ghost use Rattle.refusal.specs.Refusals.{refuse_when, first_refusal};
+ghost use Rattle.std.specs.Prelude.{◌≡◌, true, false, ◌||◌, ◌&&◌, not, List, [], ◌∷◌, ℕ, ◌+◌, ◌*◌, ◌/◌, ◌≤◌, ◌<◌, eqb, length, get_or};
+ghost use Rattle.refusal.specs.Refusals.{Check, refuse_when, first_refusal};
+ghost use Rattle.promises.specs.Refusals.{Checked};
 ghost use Rattle.cutting.specs.Areas as measured;
 ghost use Rattle.cutting.specs.Pieces.{fits_either};
 ghost use Rattle.cutting.specs.Sides.{rect_of};
@@ -13,48 +14,25 @@ ghost use Rattle.job.specs.Weights.{weight_in, weights_answer, weights_outcome, 
 ghost use Rattle.job.specs.Clauses.{HoldsKinds, HoldsGrains, HoldsBlock, header_by, pairs_by};
 
 use cutting::{Sides, fits, turn, widen};
-use promises::{Checked, Choices, JobAnswer, JobRecord, Refusal};
+use promises::{Choices, JobRecord, Refusal};
 use refusal::refuse_if;
+use std::array;
 
 // The same choices, and the old block.
 fn with_old_block(choices: Choices) -> Choices
     ensures { result ≡ with_old_block choices }
 {
     Choices {
-        turning: choices.turning,
-        full_demand: choices.full_demand,
         old_block: true,
-        grain: choices.grain,
+        ..choices
     }
 }
 
-// What the weights of a job answer.
-#[derive(Clone, Copy, Drop)]
-pub enum WeightsAnswer {
-    Capacity(u16),
-    Refused(Refusal),
-}
-
-// What a job block and weights answer: the record and the capacity; where they are refused, an empty record and 0.
+// What a job block and weights give: the record and the capacity.
 #[derive(Clone, Copy, Drop)]
 pub struct Acceptance {
-    pub verdict: Checked,
     pub job: JobRecord,
     pub capacity: u16,
-}
-
-// A byte as a number of 16 bits.
-fn to_u16(byte: u8) -> u16
-    ensures { (result ≡ byte) × (result < 256) }
-{
-    byte as u16
-}
-
-// A byte as a number of 32 bits.
-fn to_u32(byte: u8) -> u32
-    ensures { (result ≡ byte) × (result < 256) }
-{
-    byte as u32
 }
 
 // A field of two bytes.
@@ -62,7 +40,7 @@ pub fn read_u16(block: &[u8], at: usize) -> u16
     requires { at + 2 ≤ length block.now }
     ensures { result ≡ u16_at block.now at }
 {
-    to_u16(block[at]) + 256 * to_u16(block[at + 1])
+    u16::from_le_bytes([block[at], block[at + 1]])
 }
 
 // A field of four bytes.
@@ -70,33 +48,28 @@ pub fn read_u32(block: &[u8], at: usize) -> u32
     requires { at + 4 ≤ length block.now }
     ensures { result ≡ u32_at block.now at }
 {
-    to_u32(block[at])
-        + 256 * to_u32(block[at + 1])
-        + 65536 * to_u32(block[at + 2])
-        + 16777216 * to_u32(block[at + 3])
+    u32::from_le_bytes([block[at], block[at + 1], block[at + 2], block[at + 3]])
 }
 
 // Whether one of two conditions holds.
 pub fn either(a: bool, b: bool) -> bool
     ensures { result ≡ (a || b) }
 {
-    if a { true } else { b }
+    a || b
 }
 
 // Whether a number lies outside a range.
 fn lies_outside(x: u16, lo: u16, hi: u16) -> bool
     ensures { result ≡ outside lo hi x }
 {
-    either(x < lo, hi < x)
+    !(lo..=hi).contains(&x)
 }
 
 // Whether one of two sides lies outside 1 to 1,000.
 pub fn sides_outside(length: u16, width: u16) -> bool
     ensures { result ≡ sides_outside length width }
 {
-    let long = lies_outside(length, 1, 1000);
-    let wide = lies_outside(width, 1, 1000);
-    either(long, wide)
+    lies_outside(length, 1, 1000) || lies_outside(width, 1, 1000)
 }
 
 // The same of two sides of a block, the first at `at`.
@@ -119,14 +92,11 @@ fn read_kerf(block: &[u8], old: bool) -> u16
     requires { sizes_end old ≤ length block.now }
     ensures { result ≡ kerf_at old block.now }
 {
-    if old {
-        return 0;
-    }
-    read_u16(block, 6)
+    if old { 0 } else { read_u16(block, 6) }
 }
 
 // Refusal 1.
-fn check_short(block: &[u8], old: bool) -> Checked
+fn check_short(block: &[u8], old: bool) -> Result<(), Refusal>
     ensures { result ≡ refuse_when (short_check old block.now).0 (short_check old block.now).1 }
 {
     refuse_if(block.len() < sizes_end(old), Refusal::ShortHeader)
@@ -137,68 +107,37 @@ fn kinds_bytes(grain: bool, n: u16) -> usize
     ensures { (result ≡ kind_bytes grain * n) × (result ≤ 11 * n) }
 {
     if grain {
-        return 11 * (n as usize);
+        11 * (n as usize)
+    } else {
+        10 * (n as usize)
     }
-    10 * (n as usize)
 }
 
 // Refusals 3, 27 and 4: the numbers of the header beside the plate's.
-fn check_counts(block: &[u8], choices: Choices) -> Checked
+fn check_counts(block: &[u8], choices: Choices) -> Result<(), Refusal>
     requires { sizes_end choices.old_block ≤ length block.now }
     ensures { result ≡ first_refusal (count_checks choices block.now) }
 {
     let n = read_u16(block, 4);
-    let kinds = refuse_if(lies_outside(n, 1, 64), Refusal::KindCount);
-    let Checked::Passed = kinds else {
-        return kinds;
-    };
-    let kerf = refuse_if(20 < read_kerf(block, choices.old_block), Refusal::Kerf);
-    let Checked::Passed = kerf else {
-        return kerf;
-    };
+    refuse_if(lies_outside(n, 1, 64), Refusal::KindCount)?;
+    refuse_if(20 < read_kerf(block, choices.old_block), Refusal::Kerf)?;
     let bytes = sizes_end(choices.old_block) + kinds_bytes(choices.grain, n);
     refuse_if(block.len() != bytes, Refusal::BlockLength)
 }
 
-// The header: refusals 1, 2, then 3, 27 and 4.
-fn check_header(block: &[u8], choices: Choices) -> Checked
-    ensures { result ≡ first_refusal (header_checks choices block.now) }
-{
-    let short = check_short(block, choices.old_block);
-    let Checked::Passed = short else {
-        return short;
-    };
-    let plate = refuse_if(side_outside(block, 0), Refusal::PlateSide);
-    let Checked::Passed = plate else {
-        return plate;
-    };
-    check_counts(block, choices)
-}
-
-// A header whose plate is not read: refusals 1, then 3, 27 and 4.
-fn check_plateless(block: &[u8], choices: Choices) -> Checked
-    ensures { result ≡ first_refusal (plateless_checks choices block.now) }
-{
-    let short = check_short(block, choices.old_block);
-    let Checked::Passed = short else {
-        return short;
-    };
-    check_counts(block, choices)
-}
-
-// A header whose plate is read or not.
-fn check_front(block: &[u8], choices: Choices, plate: bool) -> Checked
+// The header, whose plate is read or not: refusals 1, 2 where it is, then 3, 27 and 4.
+fn check_front(block: &[u8], choices: Choices, plate: bool) -> Result<(), Refusal>
     ensures { result ≡ first_refusal (header_by plate choices block.now) }
 {
+    check_short(block, choices.old_block)?;
     if plate {
-        check_header(block, choices)
-    } else {
-        check_plateless(block, choices)
+        refuse_if(side_outside(block, 0), Refusal::PlateSide)?;
     }
+    check_counts(block, choices)
 }
 
 // Refusal 5, of one kind, where the sizes of the block end at byte h.
-fn check_size(block: &[u8], h: usize, i: u16) -> Checked
+fn check_size(block: &[u8], h: usize, i: u16) -> Result<(), Refusal>
     requires { (h + 4 + 4 * i ≤ length block.now) × (h ≤ 8) × (i < 64) }
     ensures { result ≡ first_refusal (size_check h block.now i ∷ []) }
 {
@@ -208,135 +147,87 @@ fn check_size(block: &[u8], h: usize, i: u16) -> Checked
     )
 }
 
+// Checks of each of n kinds, in their order.
+fn check_kinds<F: Fn(u16) -> Result<(), Refusal>>(n: u16, check: F) -> Result<(), Refusal>
+    requires { (i : ℕ) → i < n → F.pre check i }
+    ensures { (f : ℕ → List Check) → ((i : ℕ) (r : Checked) → i < n → F.post check i r → r ≡ first_refusal (f i)) → result ≡ first_refusal (each_kind f 0 n) }
+{
+    for i in 0..n {
+        check(i)?;
+    }
+    Ok(())
+}
+
 // The first array: the sizes in the order of the kinds.
-fn check_sizes(block: &[u8], h: usize, n: u16) -> Checked
+fn check_sizes(block: &[u8], h: usize, n: u16) -> Result<(), Refusal>
     requires { HoldsKinds h block.now n }
     ensures { result ≡ first_refusal (each_kind (λ i. size_check h block.now i ∷ []) 0 n) }
 {
-    for i in 0..n {
-        let size = check_size(block, h, i);
-        let Checked::Passed = size else {
-            return size;
-        };
-    }
-    Checked::Passed
-}
-
-// Refusal 7, of one kind.
-fn check_demand(block: &[u8], h: usize, n: u16, i: u16) -> Checked
-    requires { HoldsKinds h block.now n × (i < n) }
-    ensures { result ≡ first_refusal (demand_check h block.now i ∷ []) }
-{
-    let pairs = h + 4 * (n as usize);
-    let at = pairs + 6 * (i as usize);
-    refuse_if(255 < read_u16(block, at + 4), Refusal::Demand(i))
-}
-
-// Refusals 6 and 7, of one kind.
-fn check_pair(block: &[u8], h: usize, n: u16, i: u16) -> Checked
-    requires { HoldsKinds h block.now n × (i < n) }
-    ensures { result ≡ first_refusal (pair_checks h block.now i) }
-{
-    let pairs = h + 4 * (n as usize);
-    let at = pairs + 6 * (i as usize);
-    let price = refuse_if(1000000 < read_u32(block, at), Refusal::Price(i));
-    let Checked::Passed = price else {
-        return price;
-    };
-    check_demand(block, h, n, i)
+    check_kinds(n, |i| check_size(block, h, i))
 }
 
 // Refusals 6 and 7 of one kind, or 7 alone where no price is read.
-fn check_kind(block: &[u8], h: usize, n: u16, i: u16, priced: bool) -> Checked
+fn check_pair(block: &[u8], h: usize, n: u16, i: u16, priced: bool) -> Result<(), Refusal>
     requires { HoldsKinds h block.now n × (i < n) }
     ensures { result ≡ first_refusal (pairs_by priced h block.now i) }
 {
+    let at = h + 4 * (n as usize) + 6 * (i as usize);
     if priced {
-        check_pair(block, h, n, i)
-    } else {
-        check_demand(block, h, n, i)
+        refuse_if(1000000 < read_u32(block, at), Refusal::Price(i))?;
     }
+    refuse_if(255 < read_u16(block, at + 4), Refusal::Demand(i))
 }
 
 // The second array: the pairs of price and demand in the order of the kinds; the price is read or not.
-fn check_pairs(block: &[u8], h: usize, n: u16, priced: bool) -> Checked
+fn check_pairs(block: &[u8], h: usize, n: u16, priced: bool) -> Result<(), Refusal>
     requires { HoldsKinds h block.now n }
     ensures { result ≡ first_refusal (each_kind (pairs_by priced h block.now) 0 n) }
 {
-    for i in 0..n {
-        let pair = check_kind(block, h, n, i, priced);
-        let Checked::Passed = pair else {
-            return pair;
-        };
-    }
-    Checked::Passed
+    check_kinds(n, |i| check_pair(block, h, n, i, priced))
 }
 
 // Refusal 35, of one kind.
-fn check_grain(block: &[u8], h: usize, n: u16, i: u16) -> Checked
+fn check_grain(block: &[u8], h: usize, n: u16, i: u16) -> Result<(), Refusal>
     requires { HoldsGrains true h block.now n × (i < n) }
     ensures { result ≡ first_refusal (grain_check h block.now i ∷ []) }
 {
-    let grains = h + 10 * (n as usize);
-    let at = grains + (i as usize);
+    let at = h + 10 * (n as usize) + (i as usize);
     refuse_if(1 < block[at], Refusal::Grain(i))
 }
 
-// The third array: the grain bytes in the order of the kinds.
-fn check_grain_bytes(block: &[u8], h: usize, n: u16) -> Checked
-    requires { HoldsGrains true h block.now n }
-    ensures { result ≡ first_refusal (each_kind (λ i. grain_check h block.now i ∷ []) 0 n) }
-{
-    for i in 0..n {
-        let grain = check_grain(block, h, n, i);
-        let Checked::Passed = grain else {
-            return grain;
-        };
-    }
-    Checked::Passed
-}
-
-// The same where the block has them.
-fn check_grains(block: &[u8], h: usize, n: u16, grain: bool) -> Checked
+// The third array, where the block has it: the grain bytes in the order of the kinds.
+fn check_grains(block: &[u8], h: usize, n: u16, grain: bool) -> Result<(), Refusal>
     requires { HoldsGrains grain h block.now n }
     ensures { result ≡ first_refusal (grain_checks grain h block.now) }
 {
     if grain {
-        return check_grain_bytes(block, h, n);
+        check_kinds(n, |i| check_grain(block, h, n, i))
+    } else {
+        Ok(())
     }
-    Checked::Passed
 }
 
 // Refusals 5 to 7 and 35: the arrays of n kinds.
-fn check_arrays(block: &[u8], h: usize, n: u16, priced: bool, grain: bool) -> Checked
+fn check_arrays(block: &[u8], h: usize, n: u16, priced: bool, grain: bool) -> Result<(), Refusal>
     requires { HoldsGrains grain h block.now n }
     ensures { result ≡ first_refusal (array_checks (pairs_by priced h block.now) grain h block.now) }
 {
-    let sizes = check_sizes(block, h, n);
-    let Checked::Passed = sizes else {
-        return sizes;
-    };
-    let pairs = check_pairs(block, h, n, priced);
-    let Checked::Passed = pairs else {
-        return pairs;
-    };
+    check_sizes(block, h, n)?;
+    check_pairs(block, h, n, priced)?;
     check_grains(block, h, n, grain)
 }
 
 // Refusals 1 to 7, 27 and 35, in the table's order; the plate is read or not, and the prices are or not.
-pub fn check_block(block: &[u8], choices: Choices, plate: bool, priced: bool) -> Checked
+pub fn check_block(block: &[u8], choices: Choices, plate: bool, priced: bool) -> Result<(), Refusal>
     ensures { result ≡ first_refusal (checks_by (header_by plate) (pairs_by priced) block.now choices) }
 {
-    let header = check_front(block, choices, plate);
-    let Checked::Passed = header else {
-        return header;
-    };
+    check_front(block, choices, plate)?;
     let h = sizes_end(choices.old_block);
     check_arrays(block, h, read_u16(block, 4), priced, choices.grain)
 }
 
 // A job block: its plate and its prices are read.
-fn check_job(block: &[u8], choices: Choices) -> Checked
+fn check_job(block: &[u8], choices: Choices) -> Result<(), Refusal>
     ensures { result ≡ first_refusal (job_checks block.now choices) }
 {
     check_block(block, choices, true, true)
@@ -347,12 +238,13 @@ fn read_fields(block: &[u8], from: usize, step: usize, n: u16) -> [u16; 64]
     requires { (n ≤ 64) × ((i : ℕ) → i < n → from + step * i + 2 ≤ length block.now) }
     ensures { result ≡ entries (λ i. u16_at block.now (from + step * i)) n }
 {
-    let mut fields = [0u16; 64];
-    for i in 0..n {
-        let k = i as usize;
-        fields[k] = read_u16(block, from + step * k);
-    }
-    fields
+    array::from_fn(|i| {
+        if i < n as usize {
+            read_u16(block, from + step * i)
+        } else {
+            0
+        }
+    })
 }
 
 // The same of fields of four bytes.
@@ -360,12 +252,13 @@ pub fn read_u32_fields(block: &[u8], from: usize, step: usize, n: u16) -> [u32; 
     requires { (n ≤ 64) × ((i : ℕ) → i < n → from + step * i + 4 ≤ length block.now) }
     ensures { result ≡ entries (λ i. u32_at block.now (from + step * i)) n }
 {
-    let mut fields = [0u32; 64];
-    for i in 0..n {
-        let k = i as usize;
-        fields[k] = read_u32(block, from + step * k);
-    }
-    fields
+    array::from_fn(|i| {
+        if i < n as usize {
+            read_u32(block, from + step * i)
+        } else {
+            0
+        }
+    })
 }
 
 // The prices.
@@ -381,12 +274,7 @@ fn read_bytes(block: &[u8], from: usize, n: u16) -> [u8; 64]
     requires { (n ≤ 64) × (from + n ≤ length block.now) }
     ensures { result ≡ entries (λ i. get_or block.now (from + i) 0) n }
 {
-    let mut bytes = [0u8; 64];
-    for i in 0..n {
-        let k = i as usize;
-        bytes[k] = block[from + k];
-    }
-    bytes
+    array::from_fn(|i| if i < n as usize { block[from + i] } else { 0 })
 }
 
 // The grain bytes, 0 where the block has none.
@@ -395,9 +283,10 @@ fn read_grains(block: &[u8], h: usize, n: u16, grain: bool) -> [u8; 64]
     ensures { result ≡ grains_of grain h block.now }
 {
     if grain {
-        return read_bytes(block, h + 10 * (n as usize), n);
+        read_bytes(block, h + 10 * (n as usize), n)
+    } else {
+        [0u8; 64]
     }
-    [0u8; 64]
 }
 
 // The record of a block that has the bytes of its kinds, its prices not read: each is 0.
@@ -415,17 +304,17 @@ pub fn read_unpriced(block: &[u8], choices: Choices) -> JobRecord
     let demands = read_fields(block, h + 4 + 4 * (n as usize), 6, n);
     let grains = read_grains(block, h, n, choices.grain);
     JobRecord {
-        length: length,
-        width: width,
+        length,
+        width,
         count: n,
-        kerf: kerf,
+        kerf,
         turning: choices.turning,
         full_demand: choices.full_demand,
-        lengths: lengths,
-        widths: widths,
+        lengths,
+        widths,
         prices: [0u32; 64],
-        demands: demands,
-        grains: grains,
+        demands,
+        grains,
     }
 }
 
@@ -436,52 +325,24 @@ pub fn read_record(block: &[u8], choices: Choices) -> JobRecord
 {
     let h = sizes_end(choices.old_block);
     let n = read_u16(block, 4);
-    let mut job = read_unpriced(block, choices);
-    let prices = read_prices(block, h, n);
-    job.prices = prices;
-    job
-}
-
-// The record where a block is refused.
-pub fn empty_record() -> JobRecord
-    ensures { result ≡ empty_record }
-{
     JobRecord {
-        length: 0,
-        width: 0,
-        count: 0,
-        kerf: 0,
-        turning: false,
-        full_demand: false,
-        lengths: [0u16; 64],
-        widths: [0u16; 64],
-        prices: [0u32; 64],
-        demands: [0u16; 64],
-        grains: [0u8; 64],
+        prices: read_prices(block, h, n),
+        ..read_unpriced(block, choices)
     }
 }
 
 // A job block, read or refused; the record keeps the choices.
-pub fn read_job(block: &[u8], choices: Choices) -> JobAnswer
+pub fn read_job(block: &[u8], choices: Choices) -> Result<JobRecord, Refusal>
     ensures answers { result ≡ read_of block.now choices }
     ensures outcome { job_outcome result ≡ job_said block.now choices }
     ensures alike { KerfNoneRead block.now choices }
 {
-    let verdict = check_job(block, choices);
-    let Checked::Passed = verdict else {
-        return JobAnswer {
-            verdict: verdict,
-            job: empty_record(),
-        };
-    };
-    JobAnswer {
-        verdict: Checked::Passed,
-        job: read_record(block, choices),
-    }
+    check_job(block, choices)?;
+    Ok(read_record(block, choices))
 }
 
 // An old job block, read or refused, whatever the choices say of it; its kerf is 0.
-pub fn read_old_job(block: &[u8], choices: Choices) -> JobAnswer
+pub fn read_old_job(block: &[u8], choices: Choices) -> Result<JobRecord, Refusal>
     ensures answers { result ≡ read_of block.now (with_old_block choices) }
     ensures outcome { job_outcome result ≡ job_said block.now (with_old_block choices) }
 {
@@ -492,32 +353,21 @@ pub fn read_old_job(block: &[u8], choices: Choices) -> JobAnswer
 fn area(r: Sides) -> u32
     ensures { result ≡ measured.area (rect_of r) }
 {
-    (r.length as u32) * (r.width as u32)
+    u32::from(r.length) * u32::from(r.width)
 }
 
 // Whether a size fits a rectangle upright or turned.
 fn fits_some_way(size: Sides, room: Sides) -> bool
     ensures { result ≡ fits_either (rect_of size) (rect_of room) }
 {
-    either(fits(size, room), fits(turn(size), room))
+    fits(size, room) || fits(turn(size), room)
 }
 
 // Whether a kind may be turned, by the job's choice and the kind's grain byte.
 pub fn may_turn(turning: bool, grain: u8) -> bool
     ensures { result ≡ (not (eqb grain 1) && turning) }
 {
-    if grain == 1 {
-        return false;
-    }
-    turning
-}
-
-// How often a piece's side goes into a side of the plate.
-fn times_in(side: u16, piece: u16) -> u16
-    requires { 1 ≤ piece }
-    ensures { result ≡ side / piece }
-{
-    side / piece
+    grain != 1 && turning
 }
 
 // The copies of a size that can lie on a rectangle, none of them turned.
@@ -525,9 +375,7 @@ fn upright_copies(room: Sides, size: Sides) -> u32
     requires { (1 ≤ size.length) × (1 ≤ size.width) }
     ensures { result ≡ copies_on false (rect_of room) (rect_of size) }
 {
-    let along = times_in(room.length, size.length);
-    let across = times_in(room.width, size.width);
-    (along as u32) * (across as u32)
+    u32::from(room.length / size.length) * u32::from(room.width / size.width)
 }
 
 // The same where they may be turned.
@@ -536,9 +384,10 @@ fn turning_copies(room: Sides, size: Sides) -> u32
     ensures { result ≡ copies_on true (rect_of room) (rect_of size) }
 {
     if fits_some_way(size, room) {
-        return area(room) / area(size);
+        area(room) / area(size)
+    } else {
+        0
     }
-    0
 }
 
 // The copies of a size that can lie on a rectangle.
@@ -547,9 +396,10 @@ fn copies_on(turns: bool, room: Sides, size: Sides) -> u32
     ensures { result ≡ copies_on turns (rect_of room) (rect_of size) }
 {
     if turns {
-        return turning_copies(room, size);
+        turning_copies(room, size)
+    } else {
+        upright_copies(room, size)
     }
-    upright_copies(room, size)
 }
 
 // The copies of a kind that the capacity counts: its demand, or the lesser of it and what can lie on the plate.
@@ -561,10 +411,7 @@ fn counted_copies(full_demand: bool, turns: bool, plate: Sides, size: Sides, dem
         return demand;
     }
     let held = copies_on(turns, plate, size);
-    if held < (demand as u32) {
-        return held as u16;
-    }
-    demand
+    held.min(u32::from(demand)) as u16
 }
 
 // A number of copies times a weight.
@@ -572,7 +419,7 @@ fn weigh(copies: u16, weight: u8) -> u32
     requires { copies ≤ 255 }
     ensures { (result ≡ copies * weight) × (result ≤ 65025) }
 {
-    (copies as u32) * to_u32(weight)
+    u32::from(copies) * u32::from(weight)
 }
 
 // The capacity of as many weights as kinds, the kerf added to every side: at most 64 times 65,025.
@@ -598,63 +445,29 @@ fn sum_capacity(job: JobRecord, weights: &[u8]) -> u32
         let size = widen(upright, kerf);
         let turns = may_turn(job.turning, job.grains[k]);
         let copies = counted_copies(job.full_demand, turns, plate, size, job.demands[k]);
-        q = q + weigh(copies, weights[k]);
+        q += weigh(copies, weights[k]);
     }
     q
 }
 
 // The weights of a job that was read: the capacity, or refusal 8 or 9.
-pub fn check_weights(job: JobRecord, weights: &[u8]) -> WeightsAnswer
+pub fn check_weights(job: JobRecord, weights: &[u8]) -> Result<u16, Refusal>
     requires { InRange (job_of job) }
     ensures answers { result ≡ weights_answer (job_of job) weights.now }
     ensures outcome { weights_outcome result ≡ weights_said (job_of job) weights.now }
 {
-    let count = job.count;
-    if weights.len() != (count as usize) {
-        return WeightsAnswer::Refused(Refusal::WeightCount);
-    }
+    refuse_if(weights.len() != job.count as usize, Refusal::WeightCount)?;
     let q = sum_capacity(job, weights);
-    if 4095 < q {
-        return WeightsAnswer::Refused(Refusal::Capacity);
-    }
-    let capacity = q as u16;
-    WeightsAnswer::Capacity(capacity)
+    refuse_if(4095 < q, Refusal::Capacity)?;
+    Ok(q as u16)
 }
 
-// A refusal of the job or of its weights, without record and capacity.
-fn unaccepted(verdict: Checked) -> Acceptance
-    ensures { result ≡ record { verdict = verdict; job = empty_record; capacity = 0 } }
-{
-    Acceptance {
-        verdict: verdict,
-        job: empty_record(),
-        capacity: 0,
-    }
-}
-
-// A job block and weights, accepted or refused. The record is read into the answer itself, so that it is not copied; its capacity is set
-// once the weights have passed.
-pub fn accept(block: &[u8], choices: Choices, weights: &[u8]) -> Acceptance
+// A job block and weights, accepted or refused.
+pub fn accept(block: &[u8], choices: Choices, weights: &[u8]) -> Result<Acceptance, Refusal>
     ensures answers { result ≡ acceptance_of block.now choices weights.now }
     ensures outcome { acceptance_outcome result ≡ acceptance_said block.now choices weights.now }
 {
-    let read = check_job(block, choices);
-    let Checked::Passed = read else {
-        return unaccepted(read);
-    };
-    let mut accepted = Acceptance {
-        verdict: Checked::Passed,
-        job: read_record(block, choices),
-        capacity: 0,
-    };
-    let weighed = check_weights(accepted.job, weights);
-    match weighed {
-        WeightsAnswer::Refused(r) => {
-            return unaccepted(Checked::Refused(r));
-        }
-        WeightsAnswer::Capacity(q) => {
-            accepted.capacity = q;
-        }
-    }
-    accepted
+    let job = read_job(block, choices)?;
+    let capacity = check_weights(job, weights)?;
+    Ok(Acceptance { job, capacity })
 }

@@ -1,5 +1,5 @@
 -- Laws of the ways of a kind and of the table: which of the ways are the kind's, one kind more, and that the entries fit.
-use Rattle.model.proofs.Prelude.{◌≡◌, refl, sym, ◌∙◌, ap, ap₂, subst, Bool, true, false, ◌&&◌, not, List, [], ◌∷◌, ℕ, zero, suc, ◌+◌, ◌-◌, ◌≤◌, ◌<◌, min, dec_lt, ℕ_discrete, arith, lt-ltb, le-ltb, le-leb, lt-leb, ltb, leb, length, set, length-set, take, replicate, length-replicate, List·getD-eq-default, get_or-set_same, get_or-set_other, length-take-le, Direction, Length, Width, most_true_side, most_true_kerf, Rect, side, keep, filter, upright, turned, ways, quarter, fits_in, Job, laid, turns, InRange, taken, room, lowest, fitting_ways, without, one_more, copies_more, least, chains_fit, JobRecord, job_of, TrueSizes, true_job, TrueRange, most_entry, entry, Steps, Repeated, two_ways, one_way, no_way, Way, Span, taken_by, Within, way_by, turned_span, true_span_at, model_span_at, true_plate, model_plate, lies_so, WayOf, Fitting, Tabled, cleared, Added}
+use Rattle.model.proofs.Prelude.{◌≡◌, refl, sym, ◌∙◌, ap, ap₂, subst, Bool, true, false, ◌&&◌, not, List, [], ◌∷◌, ℕ, zero, suc, ◌+◌, ◌-◌, ◌≤◌, ◌<◌, min, dec_lt, arith, lt-ltb, le-ltb, le-leb, lt-leb, ltb, leb, length, List·getD-eq-default, Direction, Length, Width, most_true_side, Rect, side, keep, filter, upright, turned, ways, quarter, fits_in, Job, laid, turns, InRange, taken, room, lowest, fitting_ways, without, one_more, copies_more, least, chains_fit, JobRecord, job_of, TrueSizes, true_job, TrueRange, most_entry, entry, Repeated, two_ways, one_way, no_way, Way, Span, taken_by, way_by, turned_span, true_span_at, model_span_at, true_plate, lies_so, WayOf, Fitting, Tabled, cleared, Added}
 
 -- the least over a list with a number is at most that number
 lowest_most : {A : Type 0} (f : A → ℕ) (xs : List A) (n : ℕ) → lowest f xs n ≤ n
@@ -65,16 +65,6 @@ module _ (old : List ℕ) (copies : ℕ) (a b : Way) where
     entries = λ J M d i u v. record { at = λ s l. no_way J M d i (entry old) (ways_told J M d i false false u v e f) copies s };
   }
 
-  -- what the passes ask
-  pub steps_two : Fitting old a b → Steps old a.model a.real b.model b.real
-  steps_two h = record { first = h.first; second = h.second; first_fits = h.first_fits; second_fits = h.second_fits; entries_fit = h.entries_fit }
-
-  pub steps_upright : Fitting old a b → Steps old a.model a.real a.model a.real
-  steps_upright h = record { first = h.first; second = h.first; first_fits = h.first_fits; second_fits = h.first_fits; entries_fit = h.entries_fit }
-
-  pub steps_turned : Fitting old a b → Steps old b.model b.real b.model b.real
-  steps_turned h = record { first = h.second; second = h.second; first_fits = h.second_fits; second_fits = h.second_fits; entries_fit = h.entries_fit }
-
 module _ (J M : Job) (d : Direction) where
   -- two functions alike up to s give one copy more alike there
   lowest_alike : {A : Type 0} (f g : A → ℕ) (xs : List A) (m n : ℕ) → ((x : A) → f x ≡ g x) → m ≡ n → lowest f xs m ≡ lowest g xs n
@@ -131,13 +121,6 @@ side_most : (d : Direction) (q : Rect) (n : ℕ) → q.0 ≤ n → q.1 ≤ n →
 side_most Length q n l w = l
 side_most Width q n l w = w
 
--- the sizes of kind i are in range
-pub true_within : (J : Job) (z : TrueSizes) → TrueRange (true_job J z) → (i : ℕ) → i < J.count → Within most_true_side most_true_kerf (true_span_at z i)
-true_within J z t i l = ((t.lengths i l).1, (t.widths i l).1, t.kerfs)
-
-pub model_within : (j : JobRecord) → InRange (job_of j) → (i : ℕ) → i < j.count → Within most_true_side most_true_kerf (model_span_at j i)
-model_within j r i l = (omega (arith, (r.lengths i l).1), omega (arith, (r.widths i l).1), omega (arith, r.kerfs))
-
 module _ (j : JobRecord) (z : TrueSizes) (d : Direction) where
   abbrev model : Job
   model = job_of j
@@ -167,48 +150,11 @@ module _ (j : JobRecord) (z : TrueSizes) (d : Direction) where
       room_most : TrueRange truth → room truth d ≤ 101000000
       room_most t = omega (arith, t.kerfs, side_most d truth.plate most_true_side t.plate_length.1 t.plate_width.1)
 
--- clearing: the entries below k are the number
-abbrev pub Cleared : ℕ → ℕ → List ℕ → Type 0
-Cleared above k table = (s : ℕ) → s < k → entry table s ≡ above
-
-pub cleared_more : (above k : ℕ) (table : List ℕ) → k < length table → Cleared above k table → Cleared above (k + 1) (set table k above)
-cleared_more above k table l h s m = go (ℕ_discrete s k)
-  where
-    go : Dec (s ≡ k) → entry (set table k above) s ≡ above
-    go (yes e) = rw e (get_or-set_same table k above 0 l)
-    go (no e) = get_or-set_other table k s above 0 e ∙ h s (omega arith)
-
-pub cleared_done : (above k : ℕ) (table : List ℕ) → length table ≤ k → 1 ≤ length table → Cleared above k table → Tabled (cleared above) (set table 0 0)
-cleared_done above k table b n h = record { at = go }
-  where
-    go : (s : ℕ) → s < length (set table 0 0) → entry (set table 0 0) s ≡ cleared above s
-    go zero l = get_or-set_same table 0 0 0 (omega (arith, n))
-    go (suc s) l = get_or-set_other table 0 (suc s) 0 0 (omega arith) ∙ h (suc s) (omega (arith, l, b, length-set table 0 0))
-
--- the plates are in range, and what they take is the rooms
-pub true_plate_within : (J : Job) (z : TrueSizes) → TrueRange (true_job J z) → Within most_true_side most_true_kerf (true_plate z)
-true_plate_within J z t = (t.plate_length.1, t.plate_width.1, t.kerfs)
-
-pub model_plate_within : (j : JobRecord) → InRange (job_of j) → Within most_true_side most_true_kerf (model_plate j)
-model_plate_within j r = (omega (arith, r.plate_length.1), omega (arith, r.plate_width.1), omega (arith, r.kerfs))
-
+-- what the true plate takes is its room
 pub true_room : (J : Job) (z : TrueSizes) (d : Direction) → TrueRange (true_job J z) → {p : Span} {n : ℕ} → p ≡ true_plate z → n ≡ taken_by d p → (n ≡ room (true_job J z) d) × (n ≤ 101000000)
 true_room J z d t {p} {n} e f =
     let g : n ≡ room (true_job J z) d = rw e at f in
     (g, omega (arith, g, t.kerfs, side_most d (true_job J z).plate most_true_side t.plate_length.1 t.plate_width.1))
-
-pub model_room : (j : JobRecord) (d : Direction) → InRange (job_of j) → {p : Span} {n : ℕ} → p ≡ model_plate j → n ≡ taken_by d p → (n ≡ room (job_of j) d) × (n ≤ 1020)
-model_room j d r {p} {n} e f =
-    let g : n ≡ room (job_of j) d = rw e at f in
-    (g, omega (arith, g, r.kerfs, side_most d (job_of j).plate 1000 r.plate_length.1 r.plate_width.1))
-
--- the first k entries of the array
-pub prefix_length : (k : ℕ) → k ≤ 1022 → length (take k (replicate {A = ℕ} 1022 0)) ≡ k
-prefix_length k h = let e : length (replicate {A = ℕ} 1022 0) ≡ 1022 = length-replicate {A = ℕ} 1022 0 in length-take-le k (replicate {A = ℕ} 1022 0) (omega (arith, e, h))
-
--- the last entry
-pub last_entry : (f : ℕ → ℕ) (table : List ℕ) (n : ℕ) → length table ≡ n + 2 → Tabled f table → entry table (length table - 1) ≡ f (suc n)
-last_entry f table n e h = let k : length table - 1 ≡ suc n = omega arith in h.at (length table - 1) (omega arith) ∙ ap f k
 
 -- the test of a direction, as the refusal's condition
 not_less : (a b : ℕ) → leb b a ≡ not (ltb a b)

@@ -9,9 +9,7 @@ use Rattle.cutting.specs.Promises.{NoneAbove, NoneBetter}
 use Rattle.cutting.specs.Staged.{NoneStaged, NoneStagedBetter}
 use Rattle.cutting.specs.Relaxation.{ChainsFitIn, ChainsFit}
 use Rattle.cutting.specs.Chains.{chains_fit}
-use Rattle.refusal.specs.Refusals.{Check, Outcome, next, first_refusal, outcome_by}
-use Rattle.promises.specs.declared.Checked.{Checked}
-use Rattle.promises.specs.declared.Checked.TheVariants.{Passed}
+use Rattle.refusal.specs.Refusals.{Check, Checked, Outcome, passed, next, first_refusal, outcome_by}
 use Rattle.promises.specs.declared.Refusal.TheVariants.{NoModel}
 use Rattle.promises.specs.declared.Choices.{Choices}
 use Rattle.job.specs.Weights.{block_job}
@@ -42,5 +40,5 @@ pub record ModelPromises (s : List ℕ) (choices : Choices) (z : List ℕ) (r : 
   pub answers : r ≡ model_verdict s choices z
   pub outcome : outcome_by r [] ≡ model_said s choices z
   pub directions : (d : Direction) → T (chains_fit (block_true_job s choices z) (block_job s choices) d) ↔ ChainsFitIn (block_true_job s choices z) (block_job s choices) d
-  pub exactly : true_verdict s choices z ≡ Passed → (r ≡ Passed) ↔ ChainsFit (block_true_job s choices z) (block_job s choices)
-  pub stands : r ≡ Passed → StandsFor (block_job s choices) (block_true_job s choices z)
+  pub exactly : true_verdict s choices z ≡ passed → (r ≡ passed) ↔ ChainsFit (block_true_job s choices z) (block_job s choices)
+  pub stands : r ≡ passed → StandsFor (block_job s choices) (block_true_job s choices z)

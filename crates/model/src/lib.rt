@@ -17,7 +17,7 @@ ghost use Rattle.model.specs.Tables.{taken_by, Within, way_by, turned_span, true
 
 use chains::passes;
 use job::may_turn;
-use promises::{Checked, Choices, Direction, JobRecord, Refusal};
+use promises::{Choices, Direction, JobRecord, Refusal};
 use refusal::refuse_if;
 use sizes::{TrueSizes, read_true_job};
 
@@ -52,12 +52,7 @@ fn taken_in(d: Direction, span: Span) -> u32
 fn lies_on(may: bool, span: Span, plate: Span) -> bool
     ensures { result ≡ (may && (leb span.length plate.length && leb span.width plate.width)) }
 {
-    if may {
-        if span.length <= plate.length {
-            return span.width <= plate.width;
-        }
-    }
-    false
+    may && (span.length <= plate.length && span.width <= plate.width)
 }
 
 // A way of a kind that has these sizes as it lies, in truth and in the model.
@@ -65,10 +60,9 @@ fn way_of(d: Direction, may: bool, real: Span, model: Span, plate: Span) -> Way
     requires { Within most_true_side most_true_kerf real × Within most_true_side most_true_kerf model }
     ensures { result ≡ way_by d may real model plate }
 {
-    let taken = taken_in(d, model);
     Way {
         lies: lies_on(may, real, plate),
-        model: taken as usize,
+        model: taken_in(d, model) as usize,
         real: taken_in(d, real),
     }
 }
@@ -94,7 +88,7 @@ fn true_span(sizes: TrueSizes, i: u16) -> Span
     Span {
         length: sizes.lengths[k],
         width: sizes.widths[k],
-        kerf: kerf,
+        kerf,
     }
 }
 
@@ -148,10 +142,7 @@ fn clear(table: &mut [u32], above: u32)
     requires { 1 ≤ length table.old }
     ensures { (length table.new ≡ length table.old) × Tabled (cleared above) table.new }
 {
-    let n = table.len();
-    for s in 0..n {
-        table[s] = above;
-    }
+    table.fill(above);
     table[0] = 0;
 }
 
@@ -160,38 +151,20 @@ fn add_kind(table: &mut [u32], copies: u16, upright: Way, turned: Way)
     requires { Fitting table.old upright turned }
     ensures { Added table.old copies upright turned table.new }
 {
-    if upright.lies {
-        if turned.lies {
-            passes(
-                table,
-                copies,
-                upright.model,
-                upright.real,
-                turned.model,
-                turned.real,
-            );
-            return;
-        }
-        passes(
-            table,
-            copies,
-            upright.model,
-            upright.real,
-            upright.model,
-            upright.real,
-        );
-        return;
-    }
-    if turned.lies {
-        passes(
-            table,
-            copies,
-            turned.model,
-            turned.real,
-            turned.model,
-            turned.real,
-        );
-    }
+    let ways = match (upright.lies, turned.lies) {
+        (true, true) => (upright, turned),
+        (true, false) => (upright, upright),
+        (false, true) => (turned, turned),
+        (false, false) => return,
+    };
+    passes(
+        table,
+        copies,
+        ways.0.model,
+        ways.0.real,
+        ways.1.model,
+        ways.1.real,
+    );
 }
 
 // The table with the copies of every kind.
@@ -232,17 +205,14 @@ fn chains_exceed(d: Direction, model: JobRecord, sizes: TrueSizes) -> bool
 }
 
 // Refusal 33: along the length, then along the width.
-fn check_chains(model: JobRecord, sizes: TrueSizes) -> Checked
+fn check_chains(model: JobRecord, sizes: TrueSizes) -> Result<(), Refusal>
     requires { InRange (job_of model) × TrueRange (true_job (job_of model) sizes) }
     ensures { result ≡ first_refusal (model_checks (true_job (job_of model) sizes) (job_of model)) }
 {
-    let along = refuse_if(
+    refuse_if(
         chains_exceed(Direction::Length, model, sizes),
         Refusal::NoModel(0),
-    );
-    let Checked::Passed = along else {
-        return along;
-    };
+    )?;
     refuse_if(
         chains_exceed(Direction::Width, model, sizes),
         Refusal::NoModel(1),
@@ -250,15 +220,9 @@ fn check_chains(model: JobRecord, sizes: TrueSizes) -> Checked
 }
 
 // Whether a job block is a model of a sizes block: refused, or passed.
-pub fn check_model(block: &[u8], choices: Choices, sizes: &[u8]) -> Checked
+pub fn check_model(block: &[u8], choices: Choices, sizes: &[u8]) -> Result<(), Refusal>
     ensures { ModelPromises block.now choices sizes.now result }
 {
-    let read = read_true_job(block, choices, sizes);
-    let verdict = read.verdict;
-    let Checked::Passed = verdict else {
-        return verdict;
-    };
-    let model = read.model;
-    let true_sizes = read.sizes;
-    check_chains(model, true_sizes)
+    let job = read_true_job(block, choices, sizes)?;
+    check_chains(job.model, job.sizes)
 }

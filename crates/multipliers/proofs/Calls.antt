@@ -1,28 +1,24 @@
 -- What the call promises, from the verdicts of job, weights and multipliers and from the bound of an accepted job.
-use Rattle.multipliers.proofs.Prelude.{◌≡◌, refl, sym, ◌∙◌, ap, ap₂, subst, List, [], ◌∷◌, ℕ, zero, suc, ◌+◌, ◌≤◌, ◌<◌, arith, ltb-false, eqb-true, eq-eqb, ne_eqb, not-false, eqb, length, most_kinds, most_figure, Job, InRange, widened, capacity, bound_of, bound_ceiling, figures_most, Check, next, first_refusal, outcome_by, Refusal, MultiplierCount, Checked, Passed, Refused, Choices, JobRecord, job_of, record_of, each_kind, block_job, weight_in, Decides, begins, passes, ends, cons_passed, each_passed, passed_both, next_passed, entries_length, accepted_in_range, Taken, Summable, Memory, Leaves, memory_checks, accept_verdict, block_capacity, bound_report, bound_answer, answer_by, BoundLeaves, RecordBoundable, RecordBounded, BoundReport, BoundAnswer, record_ready, answered_behind, refused_behind, lowered, multiplier_in, multiplier_worth, multiplier_check, multiplier_checks, most_multiplier, lowered_job, multiplied_verdict, AllAccepted, lagrangian_verdict, lagrangian_report, lagrangian_by, block_lagrangian, lagrangian_answer, lagrangian_values, lagrangian_outcome, LagrangianLeaves, LagrangianHolds, as_lagrangian, LagrangianPromises, Multipliable, Multiplied, LagrangianReport, LagrangianAnswer}
-use Rattle.promises.specs.declared.BoundAnswer.TheVariants as bound
-use Rattle.promises.specs.declared.LagrangianAnswer.TheVariants as answer
+use Rattle.multipliers.proofs.Prelude.{◌≡◌, refl, sym, ◌∙◌, ap, ap₂, subst, List, [], ◌∷◌, ℕ, zero, suc, ◌+◌, ◌≤◌, ◌<◌, arith, ltb-false, eqb-true, eq-eqb, not-false, eqb, length, most_kinds, most_figure, Job, InRange, widened, capacity, bound_of, bound_ceiling, figures_most, Check, next, first_refusal, Refusal, MultiplierCount, Choices, JobRecord, job_of, record_of, each_kind, block_job, weight_in, Decides, begins, passes, ends, cons_passed, each_passed, passed_both, next_passed, entries_length, accepted_in_range, Taken, Memory, Leaves, memory_checks, accept_verdict, block_capacity, bound_report, bound_answer, answer_by, BoundLeaves, RecordBoundable, RecordBounded, BoundReport, record_ready, lowered, multiplier_in, multiplier_worth, multiplier_check, multiplier_checks, most_multiplier, lowered_job, multiplied_verdict, AllAccepted, lagrangian_verdict, answer_by, block_lagrangian, lagrangian_answer, lagrangian_values, lagrangian_outcome, LagrangianLeaves, LagrangianHolds, as_lagrangian, LagrangianPromises, Multipliable, Multiplied, LagrangianReport, Ok, Err, passed, Checked, Answer, refuse_when, Acceptance, acceptance_of, refused_both, check_passes, not, passed_false}
+use Rattle.refusal.proofs.Results.{before_refuses, before_passes, refused_answer, said_by, value_answered}
+use Rattle.std.specs.Result.{IsErrAnd}
 use Rattle.multipliers.proofs.Lagrange.{lowered_range, lagrangian_held, lowered_same, worth_none}
 
 -- checks of kinds that each pass, pass
-all_pass : (f : ℕ → List Check) (n : ℕ) → ((i : ℕ) → first_refusal (f i) ≡ Passed) → Passed ≡ first_refusal (each_kind f 0 n)
+all_pass : (f : ℕ → List Check) (n : ℕ) → ((i : ℕ) → first_refusal (f i) ≡ passed) → passed ≡ first_refusal (each_kind f 0 n)
 all_pass f n p = ends f n n (omega arith) (go n (omega arith))
   where
     go : (i : ℕ) → i ≤ n → Decides f n i
     go zero l = begins f n
-    go (suc i) l = let e : i + 1 ≡ suc i = omega arith in subst (Decides f n) e (passes f i n {a = Passed} (omega (arith, l)) (go i (omega (arith, l))) (sym (p i)) refl)
+    go (suc i) l = let e : i + 1 ≡ suc i = omega arith in subst (Decides f n) e (passes f i n {a = passed} (omega (arith, l)) (go i (omega (arith, l))) (sym (p i)) refl)
 
--- the verdict where there are not as many multipliers as kinds, and where there are
-pub miscounted : (n : ℕ) (ms : List ℕ) → (length ms ≡ n → ⊥) → Refused MultiplierCount ≡ first_refusal (multiplier_checks n ms)
-unfolding first_refusal
-miscounted n ms h = simp (ne_eqb (length ms) n h)
-
-pub counted : (n : ℕ) (ms : List ℕ) {v : Checked} → length ms ≡ n → v ≡ first_refusal (each_kind (λ i. multiplier_check ms i ∷ []) 0 n) → v ≡ first_refusal (multiplier_checks n ms)
-unfolding first_refusal
-counted n ms h e = e ∙ simp (eq-eqb (length ms) n h)
+-- as many multipliers as kinds: their own checks decide
+pub counted : (n : ℕ) (ms : List ℕ) {a v : Checked} → a ≡ refuse_when (not (eqb (length ms) n)) MultiplierCount → a ≡ passed → v ≡ first_refusal (each_kind (λ i. multiplier_check ms i ∷ []) 0 (length ms))
+    → v ≡ first_refusal (multiplier_checks n ms)
+counted n ms e p f = f ∙ ap (λ k. first_refusal (each_kind (λ i. multiplier_check ms i ∷ []) 0 k)) (eqb-true (length ms) n (not-false (eqb (length ms) n) (passed_false _ _ (sym e ∙ p)))) ∙ check_passes _ _ _ e p
 
 -- multipliers that passed: one for each kind, each in its range
-pub multipliers_passed : (n : ℕ) (ms : List ℕ) → first_refusal (multiplier_checks n ms) ≡ Passed → (length ms ≡ n) × ((i : ℕ) → i < n → multiplier_in ms i ≤ most_multiplier)
+pub multipliers_passed : (n : ℕ) (ms : List ℕ) → first_refusal (multiplier_checks n ms) ≡ passed → (length ms ≡ n) × ((i : ℕ) → i < n → multiplier_in ms i ≤ most_multiplier)
 multipliers_passed n ms p =
     let a = cons_passed _ _ _ p in
     let low : (i : ℕ) → i < n → multiplier_in ms i ≤ most_multiplier =
@@ -30,11 +26,13 @@ multipliers_passed n ms p =
     (eqb-true (length ms) n (not-false (eqb (length ms) n) a.0), low)
 
 -- multipliers of 0, one for each kind, pass
-zeros_pass : (n : ℕ) (ms : List ℕ) → length ms ≡ n → ((i : ℕ) → multiplier_in ms i ≡ 0) → first_refusal (multiplier_checks n ms) ≡ Passed
+zeros_pass : (n : ℕ) (ms : List ℕ) → length ms ≡ n → ((i : ℕ) → multiplier_in ms i ≡ 0) → first_refusal (multiplier_checks n ms) ≡ passed
 unfolding first_refusal
-zeros_pass n ms h none = sym (counted n ms h (all_pass (λ i. multiplier_check ms i ∷ []) n (λ i. zero_passes i)))
+zeros_pass n ms h none =
+    let e : passed ≡ refuse_when (not (eqb (length ms) n)) MultiplierCount = simp (eq-eqb (length ms) n h) in
+    sym (counted n ms e refl (all_pass (λ i. multiplier_check ms i ∷ []) (length ms) (λ i. zero_passes i)))
   where
-    zero_passes : (i : ℕ) → first_refusal (multiplier_check ms i ∷ []) ≡ Passed
+    zero_passes : (i : ℕ) → first_refusal (multiplier_check ms i ∷ []) ≡ passed
     zero_passes i = simp (none i)
 
 module _ (J : Job) (q : ℕ) (ws ms : List ℕ) (h : Multipliable J q ws ms) where
@@ -49,55 +47,25 @@ module _ (J : Job) (q : ℕ) (ws ms : List ℕ) (h : Multipliable J q ws ms) whe
   lowered_low : (bound_report (widened (lowered (multiplier_in ms) J)) (weight_in ws) q).bound ≤ most_figure
   lowered_low = rw h.capacity_is (bound_ceiling (lowered (multiplier_in ms) J) (weight_in ws) (lowered_range J (multiplier_in ms) h.ready.in_range))
 
--- the demands of a record and its multipliers can be summed
-pub summable : (j : JobRecord) (q : ℕ) (ws ms : List ℕ) → Multipliable (job_of j) q ws ms → Summable j.count j.demands ms
-summable j q ws ms h = record { few = h.ready.in_range.kinds.1; there = omega (arith, h.counts); demands_low = h.ready.in_range.demands; amounts_low = h.low }
-
 -- the answer of the record, from the bound of a record of the lowered job
-module _ (J : Job) (multiplier weight : ℕ → ℕ) (q : ℕ) {K : Job} (k : K ≡ lowered multiplier J) {old new : Memory} {a : BoundAnswer} (b : RecordBounded (widened K) weight q old new a) where
+module _ (J : Job) (multiplier weight : ℕ → ℕ) (q : ℕ) {K : Job} (k : K ≡ lowered multiplier J) {old new : Memory} {a : Answer BoundReport} (b : RecordBounded (widened K) weight q old new a) where
   bounded : RecordBounded (widened (lowered multiplier J)) weight q old new a
   bounded = subst (λ K. RecordBounded (widened K) weight q old new a) k b
 
   -- a report is the definition's
-  behind : {x : BoundReport} → a ≡ bound.Answered x
-      → (first_refusal (memory_checks (widened (lowered multiplier J)) q old) ≡ Passed) × (x ≡ bound_report (widened (lowered multiplier J)) weight q)
-  behind e = answered_behind (first_refusal (memory_checks (widened (lowered multiplier J)) q old)) (bound_report (widened (lowered multiplier J)) weight q) (sym e ∙ bounded.1.answer)
-
-  -- the storage is refused
-  pub record_refused : {r : Refusal} → a ≡ bound.Refused r → Multiplied J multiplier weight q old new (answer.Refused r)
-  record_refused e =
-      let v = refused_behind (first_refusal (memory_checks (widened (lowered multiplier J)) q old)) (bound_report (widened (lowered multiplier J)) weight q) (sym e ∙ bounded.1.answer) in
-      record { answer = sym (ap (λ v. lagrangian_by v (lagrangian_report J multiplier weight q)) v); memory = bounded.1.memory }
-
-  -- there is a report
-  pub record_answered : {x : BoundReport} {n : ℕ} → a ≡ bound.Answered x → n ≡ multiplier_worth multiplier J
-      → Multiplied J multiplier weight q old new (answer.Answered (record { lagrangian = x.bound + n; lowered = x }))
-  record_answered {x} {n} e f =
-      let v = behind e in
-      record {
-        answer = ap₂ (λ x n. answer.Answered (record { lagrangian = x.bound + n; lowered = x })) v.1 f ∙ sym (ap (λ v. lagrangian_by v (lagrangian_report J multiplier weight q)) v.0);
-        memory = bounded.1.memory;
-      }
+  behind : {x : BoundReport} → a ≡ Ok x
+      → (first_refusal (memory_checks (widened (lowered multiplier J)) q old) ≡ passed) × (x ≡ bound_report (widened (lowered multiplier J)) weight q)
+  behind e = value_answered _ _ (sym bounded.1.answer ∙ e)
 
 -- an answered bound of the lowered job is at most the ceiling
-pub answered_low : (J : Job) (q : ℕ) (ws ms : List ℕ) {K : Job} (k : K ≡ lowered (multiplier_in ms) J) {old new : Memory} {a : BoundAnswer} {x : BoundReport}
-    → Multipliable J q ws ms → RecordBounded (widened K) (weight_in ws) q old new a → a ≡ bound.Answered x → x.bound ≤ most_figure
+pub answered_low : (J : Job) (q : ℕ) (ws ms : List ℕ) {K : Job} (k : K ≡ lowered (multiplier_in ms) J) {old new : Memory} {a : Answer BoundReport} {x : BoundReport}
+    → Multipliable J q ws ms → RecordBounded (widened K) (weight_in ws) q old new a → a ≡ Ok x → x.bound ≤ most_figure
 answered_low J q ws ms k h b e = omega (arith, lowered_low J q ws ms h, ap (λ x. x.bound) (behind J (multiplier_in ms) (weight_in ws) q k b e).1)
 
--- an answer's number and values are those of its verdict
-said_by : (v : Checked) (b : LagrangianReport) → lagrangian_outcome (lagrangian_by v b) ≡ outcome_by v (lagrangian_values b)
-said_by Passed b = refl
-said_by (Refused r) b = refl
-
--- an answer with a report: the verdict passed, and it is the report
-reported_behind : (v : Checked) (b : LagrangianReport) {x : LagrangianReport} → answer.Answered x ≡ lagrangian_by v b → (v ≡ Passed) × (x ≡ b)
-reported_behind Passed b e = (refl, cc)
-reported_behind (Refused r) b e = (cc, cc)
-
 -- an answer without multipliers is the bound call's
-alone_by : (v : Checked) (b : BoundReport) (n : ℕ) → n ≡ 0 → lagrangian_by v (record { lagrangian = b.bound + n; lowered = b }) ≡ as_lagrangian (answer_by v b)
-alone_by Passed b n e = let f : b.bound + n ≡ b.bound = omega (arith, e) in ap (λ k. answer.Answered (record { lagrangian = k; lowered = b })) f
-alone_by (Refused r) b n e = refl
+alone_by : (v : Checked) (b : BoundReport) (n : ℕ) → n ≡ 0 → answer_by v (record { lagrangian = b.bound + n; lowered = b }) ≡ as_lagrangian (answer_by v b)
+alone_by (Ok _) b n e = let f : b.bound + n ≡ b.bound = omega (arith, e) in ap (λ k. Ok (record { lagrangian = k; lowered = b })) f
+alone_by (Err r) b n e = refl
 
 module _ (s : List ℕ) (choices : Choices) (ws ms : List ℕ) where
   -- the job of an accepted block is in the scope's ranges
@@ -110,10 +78,10 @@ module _ (s : List ℕ) (choices : Choices) (ws ms : List ℕ) where
 
   module _ (old : Memory) where
     -- an answered bound holds
-    answered_held : (b : LagrangianReport) → lagrangian_answer s choices ws ms old ≡ answer.Answered b
+    answered_held : (b : LagrangianReport) → lagrangian_answer s choices ws ms old ≡ Ok b
         → LagrangianHolds (block_job s choices) (multiplier_in ms) (weight_in ws) b.lowered.capacity b.lowered.bound b.lagrangian
     answered_held b f =
-        let w = reported_behind (lagrangian_verdict s choices ws ms old) (block_lagrangian s choices ws ms) (sym f) in
+        let w = value_answered _ _ f in
         let v = passed_both (multiplied_verdict s choices ws ms) (first_refusal (memory_checks (widened (lowered_job s choices ms)) (block_capacity s choices ws) old)) w.0 in
         rw w.1 (held v.0)
 
@@ -129,7 +97,7 @@ module _ (s : List ℕ) (choices : Choices) (ws ms : List ℕ) where
       alone_answer : lagrangian_answer s choices ws ms old ≡ as_lagrangian (bound_answer s choices ws old)
       alone_answer =
           let q = block_capacity s choices ws in
-          ap₂ (λ u K. lagrangian_by (next u (first_refusal (memory_checks (widened K) q old)))
+          ap₂ (λ u K. answer_by (next u (first_refusal (memory_checks (widened K) q old)))
           (record { lagrangian = (bound_report (widened K) (weight_in ws) q).bound + multiplier_worth (multiplier_in ms) (block_job s choices); lowered = bound_report (widened K) (weight_in ws) q })) same_verdict same_job
           ∙ alone_by (next (accept_verdict s choices ws) (first_refusal (memory_checks (widened (block_job s choices)) q old))) (bound_report (widened (block_job s choices)) (weight_in ws) q) _ (worth_none (block_job s choices) (multiplier_in ms) none)
 
@@ -140,10 +108,10 @@ module _ (s : List ℕ) (choices : Choices) (ws ms : List ℕ) where
           subst (λ K. Leaves (accept_verdict s choices ws) (widened K) (weight_in ws) q old new) same_job a
 
     -- the answer and the memory give the rest
-    promised : {new : Memory} (r : LagrangianAnswer) → r ≡ lagrangian_answer s choices ws ms old → LagrangianLeaves s choices ws ms old new → LagrangianPromises s choices ws ms old new r
+    promised : {new : Memory} (r : Answer LagrangianReport) → r ≡ lagrangian_answer s choices ws ms old → LagrangianLeaves s choices ws ms old new → LagrangianPromises s choices ws ms old new r
     promised r e l = record {
       answers = e;
-      outcome = ap (λ x. lagrangian_outcome x) e ∙ said_by (lagrangian_verdict s choices ws ms old) (block_lagrangian s choices ws ms);
+      outcome = ap (λ x. lagrangian_outcome x) e ∙ said_by lagrangian_values (lagrangian_verdict s choices ws ms old) (block_lagrangian s choices ws ms);
       memory = l;
       holds = λ b f. answered_held b (sym e ∙ f);
       accepted = held;
@@ -152,25 +120,21 @@ module _ (s : List ℕ) (choices : Choices) (ws ms : List ℕ) where
     }
 
     -- the job, its weights or its multipliers are refused
-    early : (r : Refusal) → multiplied_verdict s choices ws ms ≡ Refused r → LagrangianPromises s choices ws ms old old (answer.Refused r)
-    early r v =
-        promised (answer.Refused r)
-        (sym (ap (λ v. lagrangian_by (next v (first_refusal (memory_checks (widened (lowered_job s choices ms)) (block_capacity s choices ws) old))) (block_lagrangian s choices ws ms)) v))
-        (rw v (record { lengths = refl; widths = refl; table = refl }))
+    early : {x : Refusal} {r : Answer LagrangianReport} → multiplied_verdict s choices ws ms ≡ Err x → IsErrAnd r (λ y. y ≡ x) → LagrangianPromises s choices ws ms old old r
+    early {r = r} v p = promised r (refused_answer _ _ _ (before_refuses _ _ v) p) (rw v (record { lengths = refl; widths = refl; table = refl }))
 
-    pub job_refused : (r : Refusal) → accept_verdict s choices ws ≡ Refused r → LagrangianPromises s choices ws ms old old (answer.Refused r)
-    job_refused r v = early r (ap (λ v. next v (first_refusal (multiplier_checks (block_job s choices).count ms))) v)
+    pub job_refused : {a : Answer Acceptance} {x : Refusal} {r : Answer LagrangianReport} → a ≡ acceptance_of s choices ws → a ≡ Err x → IsErrAnd r (λ y. y ≡ x) → LagrangianPromises s choices ws ms old old r
+    job_refused e f p = early (before_refuses _ _ (refused_both s choices ws e f)) p
 
     module _ {j : JobRecord} {q : ℕ} (t : Taken s choices ws j q) {v : Checked} (e : v ≡ first_refusal (multiplier_checks j.count ms)) where
       verdict_is : multiplied_verdict s choices ws ms ≡ v
-      verdict_is = ap (λ v. next v (first_refusal (multiplier_checks (block_job s choices).count ms))) t.accepted
-          ∙ sym (e ∙ ap (λ j. first_refusal (multiplier_checks j.count ms)) t.record_is)
+      verdict_is = before_passes _ _ t.accepted ∙ sym (e ∙ ap (λ j. first_refusal (multiplier_checks j.count ms)) t.record_is)
 
-      pub multipliers_refused : (r : Refusal) → v ≡ Refused r → LagrangianPromises s choices ws ms old old (answer.Refused r)
-      multipliers_refused r p = early r (verdict_is ∙ p)
+      pub multipliers_refused : {x : Refusal} {r : Answer LagrangianReport} → v ≡ Err x → IsErrAnd r (λ y. y ≡ x) → LagrangianPromises s choices ws ms old old r
+      multipliers_refused p f = early (verdict_is ∙ p) f
 
       -- what the bound of the record asks
-      pub multipliable : v ≡ Passed → Multipliable (job_of j) q ws ms
+      pub multipliable : v ≡ passed → Multipliable (job_of j) q ws ms
       multipliable p =
           let k = multipliers_passed j.count ms (sym e ∙ p) in
           record { ready = record_ready s choices ws t; capacity_is = t.capacity_is ∙ sym (ap (λ j. capacity (job_of j) (weight_in ws)) t.record_is); counts = k.0; low = k.1 }
@@ -180,10 +144,10 @@ module _ (s : List ℕ) (choices : Choices) (ws ms : List ℕ) where
       prices_there = ap (λ j. length j.prices) t.record_is ∙ entries_length _ _
 
       -- all are accepted
-      pub accepted : v ≡ Passed → {new : Memory} (r : LagrangianAnswer) → Multiplied (job_of j) (multiplier_in ms) (weight_in ws) q old new r → LagrangianPromises s choices ws ms old new r
+      pub accepted : v ≡ passed → {new : Memory} (r : Answer LagrangianReport) → Multiplied (job_of j) (multiplier_in ms) (weight_in ws) q old new r → LagrangianPromises s choices ws ms old new r
       accepted p {new} r b =
           let c : Multiplied (job_of j) (multiplier_in ms) (weight_in ws) (block_capacity s choices ws) old new r = subst (λ q. Multiplied (job_of j) (multiplier_in ms) (weight_in ws) q old new r) t.capacity_is b in
           let d : Multiplied (block_job s choices) (multiplier_in ms) (weight_in ws) (block_capacity s choices ws) old new r = subst (λ j. Multiplied (job_of j) (multiplier_in ms) (weight_in ws) (block_capacity s choices ws) old new r) t.record_is c in
           promised r
-          (d.answer ∙ sym (ap (λ v. lagrangian_by (next v (first_refusal (memory_checks (widened (lowered_job s choices ms)) (block_capacity s choices ws) old))) (block_lagrangian s choices ws ms)) (verdict_is ∙ p)))
+          (d.answer ∙ sym (ap (λ v. answer_by v (block_lagrangian s choices ws ms)) (before_passes _ _ (verdict_is ∙ p))))
           (rw (verdict_is ∙ p) d.memory)

@@ -1,26 +1,21 @@
 -- Multipliers in place of demands: the lowered job, when multipliers are refused, what the call answers and leaves, and what an answered
 -- bound is.
 -- docs/SCOPE.md: Multipliers.
-use Rattle.std.specs.Prelude.{◌≡◌, not, List, [], ◌∷◌, ℕ, ◌+◌, ◌-◌, ltb, eqb, length}
+use Rattle.std.specs.Prelude.{◌≡◌, not, List, [], ◌∷◌, ℕ, ◌+◌, ◌-◌, ltb, eqb, length, Ok, Err}
 use Rattle.cutting.specs.Job.{Job, widened, bound_of}
 use Rattle.cutting.specs.Promises.{NoneAbove, NoneFiner, NoneBetter, FiguresMost}
 use Rattle.cutting.specs.Relaxation.{Relaxes}
-use Rattle.refusal.specs.Refusals.{Check, Outcome, next, first_refusal, by_check, outcome_by}
-use Rattle.promises.specs.declared.Checked.{Checked}
-use Rattle.promises.specs.declared.Checked.TheVariants.{Passed}
+use Rattle.refusal.specs.Refusals.{Answer, Check, Checked, Outcome, passed, next, first_refusal, answer_by, outcome_by, outcome_of}
 use Rattle.promises.specs.declared.Refusal.TheVariants.{MultiplierCount, Multiplier}
 use Rattle.promises.specs.declared.Choices.{Choices}
 use Rattle.job.specs.Block.{each_kind}
 use Rattle.job.specs.Weights.{block_job, weight_in}
 use Rattle.orders.specs.Orders.{worth_at}
-use Rattle.bound.specs.Bound.{Memory, Leaves, memory_checks, accept_verdict, block_capacity, bound_report, report_values, bound_answer, BoundLeaves, BoundHolds}
-use Rattle.promises.specs.declared.BoundAnswer.{BoundAnswer}
-use Rattle.promises.specs.declared.BoundAnswer.TheVariants as bound
+use Rattle.bound.specs.Bound.{Memory, Leaves, memory_checks, accept_verdict, block_capacity, bound_report, bound_answer, BoundLeaves, BoundHolds}
 use Rattle.promises.specs.declared.LagrangianReport.{LagrangianReport}
-use Rattle.promises.specs.declared.LagrangianAnswer.{LagrangianAnswer}
-use Rattle.promises.specs.declared.LagrangianAnswer.TheVariants as answer
-pub use Rattle.promises.specs.Orders.{multiplier_in, lagrangian_outcome}
+pub use Rattle.promises.specs.Orders.{multiplier_in, lagrangian_values}
 pub use Rattle.promises.specs.Refusals.{most_multiplier}
+use Rattle.promises.specs.declared.BoundReport.{BoundReport}
 
 -- the same job at other prices
 abbrev pub repriced : (ℕ → ℕ) → Job → Job
@@ -52,7 +47,7 @@ multiplied_verdict s choices ws ms = next (accept_verdict s choices ws) (first_r
 
 -- a job block, weights and multipliers that none of them refuses
 abbrev pub AllAccepted : List ℕ → Choices → List ℕ → List ℕ → Type 0
-AllAccepted s choices ws ms = multiplied_verdict s choices ws ms ≡ Passed
+AllAccepted s choices ws ms = multiplied_verdict s choices ws ms ≡ passed
 
 -- the verdict of the call: those, 19, 20
 abbrev pub lagrangian_verdict : List ℕ → Choices → List ℕ → List ℕ → Memory → Checked
@@ -64,23 +59,19 @@ abbrev pub lagrangian_report : Job → (multiplier weight : ℕ → ℕ) → ℕ
 lagrangian_report J multiplier weight q =
     record { lagrangian = (bound_report (widened (lowered multiplier J)) weight q).bound + multiplier_worth multiplier J; lowered = bound_report (widened (lowered multiplier J)) weight q }
 
--- the report, or the refusal
-abbrev pub lagrangian_by : Checked → LagrangianReport → LagrangianAnswer
-lagrangian_by v b = by_check v (answer.Answered b) answer.Refused
-
 -- what it reports of a job block, weights and multipliers
 abbrev pub block_lagrangian : List ℕ → Choices → List ℕ → List ℕ → LagrangianReport
 block_lagrangian s choices ws ms = lagrangian_report (block_job s choices) (multiplier_in ms) (weight_in ws) (block_capacity s choices ws)
 
 -- what it answers
-abbrev pub lagrangian_answer : List ℕ → Choices → List ℕ → List ℕ → Memory → LagrangianAnswer
-lagrangian_answer s choices ws ms m = lagrangian_by (lagrangian_verdict s choices ws ms m) (block_lagrangian s choices ws ms)
+abbrev pub lagrangian_answer : List ℕ → Choices → List ℕ → List ℕ → Memory → Answer LagrangianReport
+lagrangian_answer s choices ws ms m = answer_by (lagrangian_verdict s choices ws ms m) (block_lagrangian s choices ws ms)
 
--- a report's values: the Lagrangian bound, the lowered job's bound, Q, p and r
-abbrev pub lagrangian_values : LagrangianReport → List ℕ
-lagrangian_values b = b.lagrangian ∷ report_values b.lowered
+-- an answer's number and values: the Lagrangian bound, the lowered job's bound, Q, p and r
+abbrev pub lagrangian_outcome : Answer LagrangianReport → Outcome
+lagrangian_outcome r = outcome_of lagrangian_values r
 
--- the number and values that the call answers
+-- those that the call answers
 abbrev pub lagrangian_said : List ℕ → Choices → List ℕ → List ℕ → Memory → Outcome
 lagrangian_said s choices ws ms m = outcome_by (lagrangian_verdict s choices ws ms m) (lagrangian_values (block_lagrangian s choices ws ms))
 
@@ -98,23 +89,23 @@ pub record LagrangianHolds (M : Job) (multiplier weight : ℕ → ℕ) (q b n : 
   pub modelled : (J : Job) → Relaxes J M → NoneBetter J n
 
 -- the bound call's answer as this call's: the bound with nothing beside it
-abbrev pub as_lagrangian : BoundAnswer → LagrangianAnswer
-as_lagrangian (bound.Answered b) = answer.Answered (record { lagrangian = b.bound; lowered = b })
-as_lagrangian (bound.Refused r) = answer.Refused r
+abbrev pub as_lagrangian : Answer BoundReport → Answer LagrangianReport
+as_lagrangian (Ok b) = Ok (record { lagrangian = b.bound; lowered = b })
+as_lagrangian (Err r) = Err r
 
 -- where there is a multiplier for each kind and all are 0, answer and memory are those of the bound call
-abbrev pub BoundAlone : List ℕ → Choices → List ℕ → List ℕ → Memory → Memory → LagrangianAnswer → Type 0
+abbrev pub BoundAlone : List ℕ → Choices → List ℕ → List ℕ → Memory → Memory → Answer LagrangianReport → Type 0
 BoundAlone s choices ws ms old new r = length ms ≡ (block_job s choices).count → ((i : ℕ) → multiplier_in ms i ≡ 0)
     → (r ≡ as_lagrangian (bound_answer s choices ws old)) × BoundLeaves s choices ws old new
 
 -- what the call promises: answer, number and values are the definition's; lent memory is left as the definition says; an answered bound
 -- holds. Where job, weights and multipliers are accepted, whatever storage is lent: their bound holds, and every figure is the most that a
 -- tree of the lowered job earns there. Multipliers of 0 change nothing
-pub record LagrangianPromises (s : List ℕ) (choices : Choices) (ws ms : List ℕ) (old new : Memory) (r : LagrangianAnswer) : Type 0 where
+pub record LagrangianPromises (s : List ℕ) (choices : Choices) (ws ms : List ℕ) (old new : Memory) (r : Answer LagrangianReport) : Type 0 where
   pub answers : r ≡ lagrangian_answer s choices ws ms old
   pub outcome : lagrangian_outcome r ≡ lagrangian_said s choices ws ms old
   pub memory : LagrangianLeaves s choices ws ms old new
-  pub holds : (b : LagrangianReport) → r ≡ answer.Answered b → LagrangianHolds (block_job s choices) (multiplier_in ms) (weight_in ws) b.lowered.capacity b.lowered.bound b.lagrangian
+  pub holds : (b : LagrangianReport) → r ≡ Ok b → LagrangianHolds (block_job s choices) (multiplier_in ms) (weight_in ws) b.lowered.capacity b.lowered.bound b.lagrangian
   pub accepted : AllAccepted s choices ws ms
       → LagrangianHolds (block_job s choices) (multiplier_in ms) (weight_in ws) (block_capacity s choices ws) (bound_of (lowered_job s choices ms) (weight_in ws)) (bound_of (lowered_job s choices ms) (weight_in ws) + multiplier_worth (multiplier_in ms) (block_job s choices))
   pub figures : AllAccepted s choices ws ms → FiguresMost (lowered_job s choices ms) (weight_in ws)

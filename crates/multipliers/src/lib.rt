@@ -13,77 +13,40 @@ ghost use Rattle.multipliers.specs.Multipliers.{multiplier_in, multiplier_check,
 ghost use Rattle.multipliers.specs.Clauses.{PricesLowered, Multipliable, Multiplied};
 
 use bound::bound_of_record;
+use job::Acceptance;
 use orders::worth;
-use promises::{
-    BoundAnswer, BoundReport, Checked, Choices, JobRecord, LagrangianAnswer, LagrangianReport,
-    Refusal,
-};
+use promises::{Choices, JobRecord, LagrangianReport, Refusal};
 use refusal::refuse_if;
 
-// Refusal 38, of one kind.
-fn check_multiplier(multipliers: &[u32], i: u16) -> Checked
-    requires { i < length multipliers.now }
-    ensures { result ≡ first_refusal (multiplier_check multipliers.now i ∷ []) }
-{
-    let multiplier = multipliers[i as usize];
-    refuse_if(1000000 < multiplier, Refusal::Multiplier(i))
-}
-
-// Refusal 38, of n kinds.
-fn check_each(multipliers: &[u32], n: u16) -> Checked
-    requires { n ≤ length multipliers.now }
-    ensures { result ≡ first_refusal (each_kind (λ i. multiplier_check multipliers.now i ∷ []) 0 n) }
-{
-    for i in 0..n {
-        let checked = check_multiplier(multipliers, i);
-        let Checked::Passed = checked else {
-            return checked;
-        };
-    }
-    Checked::Passed
-}
-
 // Refusals 37 and 38.
-fn check_multipliers(multipliers: &[u32], n: u16) -> Checked
+fn check_multipliers(multipliers: &[u32], n: u16) -> Result<(), Refusal>
     ensures { result ≡ first_refusal (multiplier_checks n multipliers.now) }
 {
-    if multipliers.len() != (n as usize) {
-        return Checked::Refused(Refusal::MultiplierCount);
+    refuse_if(multipliers.len() != n as usize, Refusal::MultiplierCount)?;
+    for (i, multiplier) in multipliers.iter().enumerate() {
+        refuse_if(1000000 < *multiplier, Refusal::Multiplier(i as u16))?;
     }
-    check_each(multipliers, n)
+    Ok(())
 }
 
-// A price less its multiplier, 0 where that is more.
-fn lower(price: u32, multiplier: u32) -> u32
-    ensures { result ≡ price - multiplier }
-{
-    if multiplier < price {
-        return price - multiplier;
-    }
-    0
-}
-
-// Lowers the prices of n kinds.
-fn lower_prices(prices: &mut [u32; 64], multipliers: &[u32], n: u16)
-    requires { (length prices.old ≡ most_kinds) × (n ≤ most_kinds) × (length multipliers.now ≡ n) }
+// Lowers the prices: each less its multiplier, 0 where that is more.
+fn lower_prices(prices: &mut [u32; 64], multipliers: &[u32])
+    requires { (length prices.old ≡ most_kinds) × (length multipliers.now ≤ most_kinds) }
     ensures { PricesLowered multipliers.now prices.old prices.new }
 {
-    for i in 0..n {
-        let k = i as usize;
-        prices[k] = lower(prices[k], multipliers[k]);
+    for (i, multiplier) in multipliers.iter().enumerate() {
+        prices[i] = prices[i].saturating_sub(*multiplier);
     }
 }
 
 // The record of the lowered job.
 fn lowered(job: JobRecord, multipliers: &[u32]) -> JobRecord
-    requires { (length job.prices ≡ most_kinds) × (job.count ≤ most_kinds) × (length multipliers.now ≡ job.count) }
+    requires { (length job.prices ≡ most_kinds) × (length multipliers.now ≤ most_kinds) }
     ensures { job_of result ≡ by.lowered (multiplier_in multipliers.now) (job_of job) }
 {
     let mut prices = job.prices;
-    lower_prices(&mut prices, multipliers, job.count);
-    let mut low = job;
-    low.prices = prices;
-    low
+    lower_prices(&mut prices, multipliers);
+    JobRecord { prices, ..job }
 }
 
 // The bound of a record in range and of its weights and multipliers: refusals 19 and 20, then the lists, the table and the report.
@@ -95,25 +58,19 @@ fn lagrangian_of_record(
     lengths: &mut [u16],
     widths: &mut [u16],
     table: &mut [u64],
-) -> LagrangianAnswer
+) -> Result<LagrangianReport, Refusal>
     requires { Multipliable (job_of job) q weights.now multipliers.now × (length job.prices ≡ most_kinds) }
     ensures { Multiplied (job_of job) (multiplier_in multipliers.now) (weight_in weights.now) q
         (lent lengths.old widths.old table.old)
         (lent lengths.new widths.new table.new) result }
 {
     let low = lowered(job, multipliers);
-    let bound = bound_of_record(low, weights, q, lengths, widths, table);
-    match bound {
-        BoundAnswer::Refused(r) => LagrangianAnswer::Refused(r),
-        BoundAnswer::Answered(b) => {
-            let demands = job.demands;
-            let more = worth(job.count, &demands, multipliers);
-            LagrangianAnswer::Answered(LagrangianReport {
-                lagrangian: b.bound + more,
-                lowered: b,
-            })
-        }
-    }
+    let b = bound_of_record(low, weights, q, lengths, widths, table)?;
+    let more = worth(job.count, &job.demands, multipliers);
+    Ok(LagrangianReport {
+        lagrangian: b.bound + more,
+        lowered: b,
+    })
 }
 
 // The bound of a job block, weights and multipliers. No tree that keeps the demands earns more than the Lagrangian bound.
@@ -125,28 +82,12 @@ pub fn bound_lagrangian(
     lengths: &mut [u16],
     widths: &mut [u16],
     table: &mut [u64],
-) -> LagrangianAnswer
+) -> Result<LagrangianReport, Refusal>
     ensures { LagrangianPromises block.now choices weights.now multipliers.now
         (lent lengths.old widths.old table.old)
         (lent lengths.new widths.new table.new) result }
 {
-    let accepted = job::accept(block, choices, weights);
-    let verdict = accepted.verdict;
-    if let Checked::Refused(r) = verdict {
-        return LagrangianAnswer::Refused(r);
-    }
-    let job = accepted.job;
-    let checked = check_multipliers(multipliers, job.count);
-    if let Checked::Refused(r) = checked {
-        return LagrangianAnswer::Refused(r);
-    }
-    lagrangian_of_record(
-        job,
-        weights,
-        multipliers,
-        accepted.capacity,
-        lengths,
-        widths,
-        table,
-    )
+    let Acceptance { job, capacity } = job::accept(block, choices, weights)?;
+    check_multipliers(multipliers, job.count)?;
+    lagrangian_of_record(job, weights, multipliers, capacity, lengths, widths, table)
 }

@@ -1,9 +1,8 @@
 -- The neat plan of a plan that passes: what holds of it, what the scan writes, and the answers of the call one by one.
-use Rattle.neat.proofs.Prelude.{◌≡◌, refl, sym, ◌∙◌, ap, subst, List, [], ◌∷◌, ◌++◌, map, append-nil, ℕ, zero, suc, ◌≤◌, ◌<◌, arith, length, set, lt-ltb, le-ltb, most_kinds, most_true_kerf, over, Rect, Tree, waste, piece_count, ◌⊑◌, lying, preorder, kind_of, operand_of, node_count, kinds_of, operands_of, Job, laid, OnPlate, copies_of, InRange, used_of, neat_of, Lies, range_solid, every_map, plate_lies, neat_total, neat_waste, neat_stages, neat_idle, neat_again, neat_count, neat_on, used_on, used_none, next, first_refusal, outcome_by, Refusal, PlanLong, Checked, Passed, Refused, Choices, JobRecord, JobAnswer, read_of, job_of, block_job, nodes_in, plan_answer, Walkable, trees_in, tree_in, DrawnAs, PlanOf, kinds_length, operands_length, plans_checked, nodes_are, trees_are, drawn_is, plan_is, NeatAnswer, neat_tree, output_check, neat_checked, neat_verdict, block_neat, neat_answer_by, neat_outcome, NeatPlan, NeatJudged, NeatPromises, unless_none, neat_nodes as nodes_written, pieces_in, nodes_for, Fair, Known, Within, AllMake, Scannable, Writable, Neatened}
+use Rattle.neat.proofs.Prelude.{◌≡◌, refl, sym, ◌∙◌, ap, subst, List, [], ◌∷◌, ◌++◌, map, append-nil, ℕ, zero, suc, ◌≤◌, ◌<◌, arith, length, set, lt-ltb, le-ltb, most_kinds, most_true_kerf, over, Rect, Tree, waste, piece_count, ◌⊑◌, lying, preorder, kind_of, operand_of, node_count, kinds_of, operands_of, Job, laid, OnPlate, copies_of, InRange, used_of, neat_of, Lies, range_solid, every_map, plate_lies, neat_total, neat_waste, neat_stages, neat_idle, neat_again, neat_count, neat_on, used_on, used_none, next, first_refusal, Refusal, PlanLong, Choices, JobRecord, read_of, job_of, block_job, nodes_in, plan_answer, Walkable, trees_in, tree_in, DrawnAs, PlanOf, kinds_length, operands_length, plans_checked, nodes_are, trees_are, drawn_is, plan_is, neat_tree, output_check, neat_checked, neat_verdict, block_neat, NeatPlan, NeatJudged, NeatPromises, unless_none, neat_nodes as nodes_written, pieces_in, nodes_for, Fair, Known, Within, AllMake, Scannable, Writable, Neatened, Ok, Err, passed, Checked, Answer, IsErrAnd, outcome_of, verdict_of, handed, neat_values, said_by}
 use Rattle.cutting.specs.Pieces as laid
 use Rattle.cutting.proofs.Neat.{neat_nodes}
 use Rattle.job.proofs.Read as read
-use Rattle.promises.specs.declared.NeatAnswer.TheVariants as answer
 use Rattle.neat.proofs.Trees.{pieces_tree, Shared, known_parts, within_parts, tree_makes}
 
 -- the number of nodes by the number of pieces
@@ -103,13 +102,18 @@ module _ {M : Job} (J : Job) {kinds operands : List ℕ} {t : Tree laid.Piece} (
     unfolding operands_of
     operands_written = ap (map (λ x. operand_of x)) all_written
 
+-- an answer that passes has a value
+value_of : {A : Type 0} (a : Answer A) → verdict_of a ≡ passed → (x : A) × (a ≡ Ok x)
+value_of (Ok x) p = (x, refl)
+value_of (Err r) p = cc
+
 module _ (J : Job) (range : InRange J) (kinds operands : List ℕ) where
-  module _ (p : (plan_answer J kinds operands).verdict ≡ Passed) where
+  module _ (p : verdict_of (plan_answer J kinds operands) ≡ passed) where
     abbrev t : Tree laid.Piece
     t = tree_in kinds operands
 
     is_plan : PlanOf J t kinds operands
-    is_plan = plan_is J range.kinds.1 kinds operands p
+    is_plan = plan_is J range.kinds.1 kinds operands (value_of (plan_answer J kinds operands) p).1
 
     pub drawn_by : DrawnAs J t kinds operands
     drawn_by = is_plan.drawn
@@ -160,35 +164,35 @@ module _ (J : Job) (range : InRange J) (kinds operands : List ℕ) where
     abbrev v : Checked
     v = neat_checked J kinds operands old_kinds old_operands
 
-    abbrev Says : List ℕ → List ℕ → NeatAnswer → Type 0
+    abbrev Says : List ℕ → List ℕ → Answer ℕ → Type 0
     Says new_kinds new_operands r = Neatened v (neat_tree J kinds operands) old_kinds old_operands new_kinds new_operands r
 
-    says : {w : Checked} {new_kinds new_operands : List ℕ} {r : NeatAnswer} → v ≡ w → Neatened w (neat_tree J kinds operands) old_kinds old_operands new_kinds new_operands r → Says new_kinds new_operands r
+    says : {w : Checked} {new_kinds new_operands : List ℕ} {r : Answer ℕ} → v ≡ w → Neatened w (neat_tree J kinds operands) old_kinds old_operands new_kinds new_operands r → Says new_kinds new_operands r
     says {w} {new_kinds} {new_operands} {r} e h = subst (λ x. Neatened x (neat_tree J kinds operands) old_kinds old_operands new_kinds new_operands r) (sym e) h
 
-    pub is_refused : {x : Refusal} → (plan_answer J kinds operands).verdict ≡ Refused x → Says old_kinds old_operands (answer.Refused x)
-    is_refused {x} e = says {w = Refused x} (ap (λ y. next y (first_refusal (output_check (neat_tree J kinds operands) (length old_kinds) (length old_operands) ∷ []))) e) (record { answers = refl; memory = record { kinds = refl; operands = refl } })
+    pub is_refused : {x : Refusal} {r : Answer ℕ} → plan_answer J kinds operands ≡ Err x → r ≡ Err x → Says old_kinds old_operands r
+    is_refused {x} e f = says {w = Err x} (ap (λ a. next (verdict_of a) (first_refusal (output_check (neat_tree J kinds operands) (length old_kinds) (length old_operands) ∷ []))) e) (record { answers = f; memory = record { kinds = refl; operands = refl } })
 
-    module _ (p : (plan_answer J kinds operands).verdict ≡ Passed) where
+    module _ (p : verdict_of (plan_answer J kinds operands) ≡ passed) where
       on_to : v ≡ first_refusal (output_check (neat_tree J kinds operands) (length old_kinds) (length old_operands) ∷ [])
       on_to = ap (λ y. next y (first_refusal (output_check (neat_tree J kinds operands) (length old_kinds) (length old_operands) ∷ []))) p
 
-      short : {n : ℕ} → n ≡ node_count (neat_tree J kinds operands) → v ≡ Refused (PlanLong (node_count (neat_tree J kinds operands))) → Says old_kinds old_operands (answer.Refused (PlanLong n))
-      short e h = says h (record { answers = ap (λ i. answer.Refused (PlanLong i)) e; memory = record { kinds = refl; operands = refl } })
+      short : {n : ℕ} → n ≡ node_count (neat_tree J kinds operands) → v ≡ Err (PlanLong (node_count (neat_tree J kinds operands))) → Says old_kinds old_operands (Err (PlanLong n))
+      short e h = says h (record { answers = ap (λ i. Err (PlanLong i)) e; memory = record { kinds = refl; operands = refl } })
 
-      pub kinds_short : {n : ℕ} → n ≡ node_count (neat_tree J kinds operands) → length old_kinds < n → Says old_kinds old_operands (answer.Refused (PlanLong n))
+      pub kinds_short : {n : ℕ} → n ≡ node_count (neat_tree J kinds operands) → length old_kinds < n → Says old_kinds old_operands (Err (PlanLong n))
       unfolding first_refusal
       kinds_short e h = short e (on_to ∙ simp (lt-ltb (length old_kinds) (node_count (neat_tree J kinds operands)) (omega (arith, e, h))))
 
-      pub operands_short : {n : ℕ} → n ≡ node_count (neat_tree J kinds operands) → n ≤ length old_kinds → length old_operands < n → Says old_kinds old_operands (answer.Refused (PlanLong n))
+      pub operands_short : {n : ℕ} → n ≡ node_count (neat_tree J kinds operands) → n ≤ length old_kinds → length old_operands < n → Says old_kinds old_operands (Err (PlanLong n))
       unfolding first_refusal
       operands_short e l h = short e (on_to ∙ simp (le-ltb (length old_kinds) (node_count (neat_tree J kinds operands)) (omega (arith, e, l)), lt-ltb (length old_operands) (node_count (neat_tree J kinds operands)) (omega (arith, e, h))))
 
       pub is_written : {n : ℕ} → n ≡ node_count (neat_tree J kinds operands) → n ≤ length old_kinds → n ≤ length old_operands → {new_kinds new_operands : List ℕ}
-          → new_kinds ≡ over (kinds_of (neat_tree J kinds operands)) old_kinds → new_operands ≡ over (operands_of (neat_tree J kinds operands)) old_operands → Says new_kinds new_operands (answer.Written n)
+          → new_kinds ≡ over (kinds_of (neat_tree J kinds operands)) old_kinds → new_operands ≡ over (operands_of (neat_tree J kinds operands)) old_operands → Says new_kinds new_operands (Ok n)
       unfolding first_refusal
-      is_written e l h a b = says {w = Passed} (on_to ∙ simp (le-ltb (length old_kinds) (node_count (neat_tree J kinds operands)) (omega (arith, e, l)), le-ltb (length old_operands) (node_count (neat_tree J kinds operands)) (omega (arith, e, h))))
-          (record { answers = ap (λ i. answer.Written i) e; memory = record { kinds = a; operands = b } })
+      is_written e l h a b = says {w = passed} (on_to ∙ simp (le-ltb (length old_kinds) (node_count (neat_tree J kinds operands)) (omega (arith, e, l)), le-ltb (length old_operands) (node_count (neat_tree J kinds operands)) (omega (arith, e, h))))
+          (record { answers = ap (λ i. Ok i) e; memory = record { kinds = a; operands = b } })
 
 -- one entry stored at the start
 pub first_stored : (old : List ℕ) (v : ℕ) → 1 ≤ length old → set old 0 v ≡ over (v ∷ []) old
@@ -204,31 +208,27 @@ module _ (s : List ℕ) (choices : Choices) (kinds operands old_kinds old_operan
   abbrev verdict : Checked
   verdict = neat_verdict s choices kinds operands old_kinds old_operands
 
-  outcome_by_answer : (v : Checked) (n : ℕ) → neat_outcome (neat_answer_by v n) ≡ outcome_by v (n ∷ [])
-  outcome_by_answer Passed n = refl
-  outcome_by_answer (Refused x) n = refl
-
-  promises : {r : NeatAnswer} → Neatened verdict (block_neat s choices kinds operands) old_kinds old_operands new_kinds new_operands r → NeatPromises s choices kinds operands old_kinds old_operands new_kinds new_operands r
+  promises : {r : Answer ℕ} → Neatened verdict (block_neat s choices kinds operands) old_kinds old_operands new_kinds new_operands r → NeatPromises s choices kinds operands old_kinds old_operands new_kinds new_operands r
   promises h =
       record {
         answers = h.answers;
-        outcome = ap (λ a. neat_outcome a) h.answers ∙ outcome_by_answer verdict (node_count (block_neat s choices kinds operands));
+        outcome = ap (outcome_of neat_values) h.answers ∙ said_by neat_values verdict (node_count (block_neat s choices kinds operands));
         memory = h.memory;
         plan = neat_judged s choices kinds operands;
       }
 
-  pub read_on : {a : JobAnswer} {r : NeatAnswer} → a ≡ read_of s choices → a.verdict ≡ Passed
-      → Neatened (neat_checked (job_of a.job) kinds operands old_kinds old_operands) (neat_tree (job_of a.job) kinds operands) old_kinds old_operands new_kinds new_operands r
+  pub read_on : {a : Answer JobRecord} {j : JobRecord} {r : Answer ℕ} → a ≡ read_of s choices → a ≡ Ok j
+      → Neatened (neat_checked (job_of j) kinds operands old_kinds old_operands) (neat_tree (job_of j) kinds operands) old_kinds old_operands new_kinds new_operands r
       → NeatPromises s choices kinds operands old_kinds old_operands new_kinds new_operands r
-  read_on {a} {r} e p h =
+  read_on {r = r} e p h =
       let q = read.answered s choices e p in
       promises (subst (λ x. Neatened x (block_neat s choices kinds operands) old_kinds old_operands new_kinds new_operands r)
       (sym (ap (λ y. next y (neat_checked (block_job s choices) kinds operands old_kinds old_operands)) q.0))
       (subst (λ (j : JobRecord). Neatened (neat_checked (job_of j) kinds operands old_kinds old_operands) (neat_tree (job_of j) kinds operands) old_kinds old_operands new_kinds new_operands r) q.1 h))
 
-  pub read_stops : {a : JobAnswer} {x : Refusal} → a ≡ read_of s choices → a.verdict ≡ Refused x → new_kinds ≡ old_kinds → new_operands ≡ old_operands
-      → NeatPromises s choices kinds operands old_kinds old_operands new_kinds new_operands (answer.Refused x)
-  read_stops {a} {x} e p k o =
-      promises (subst (λ y. Neatened y (block_neat s choices kinds operands) old_kinds old_operands new_kinds new_operands (answer.Refused x))
+  pub read_stops : {a : Answer JobRecord} {x : Refusal} (r : Answer ℕ) → a ≡ read_of s choices → a ≡ Err x → IsErrAnd r (λ y. y ≡ x) → new_kinds ≡ old_kinds → new_operands ≡ old_operands
+      → NeatPromises s choices kinds operands old_kinds old_operands new_kinds new_operands r
+  read_stops {a} {x} r e p h k o =
+      promises (subst (λ y. Neatened y (block_neat s choices kinds operands) old_kinds old_operands new_kinds new_operands r)
       (sym (ap (λ y. next y (neat_checked (block_job s choices) kinds operands old_kinds old_operands)) (read.refused s choices e p)))
-      (record { answers = refl; memory = record { kinds = k; operands = o } }))
+      (record { answers = handed r h; memory = record { kinds = k; operands = o } }))

@@ -38,24 +38,24 @@ pub use Rattle.plan.specs.Trees.{DrawnAs, PlanOf, first_tree, tree_in, with_node
 unfoldable pub use Rattle.plan.specs.Trees.{trees_in}
 pub use Rattle.plan.specs.Walk.{Walkable}
 unfoldable pub use Rattle.plan.specs.Walk.{waiting}
-pub use Rattle.promises.specs.declared.Checked.{Checked}
-pub use Rattle.promises.specs.declared.Checked.TheVariants.{Passed, Refused}
 pub use Rattle.promises.specs.declared.Choices.{Choices}
 pub use Rattle.promises.specs.declared.Direction.{Direction}
 pub use Rattle.promises.specs.declared.Direction.TheVariants.{Length, Width}
-pub use Rattle.promises.specs.declared.JobAnswer.{JobAnswer}
 pub use Rattle.promises.specs.declared.JobRecord.{JobRecord}
-pub use Rattle.promises.specs.declared.NeatAnswer.{NeatAnswer}
 pub use Rattle.promises.specs.declared.Node.{Node}
 pub use Rattle.promises.specs.declared.Node.TheVariants.{Cut, Piece, Turned, Waste}
-pub use Rattle.promises.specs.declared.PlanAnswer.{PlanAnswer}
 pub use Rattle.promises.specs.declared.Refusal.{Refusal}
 pub use Rattle.promises.specs.declared.Refusal.TheVariants.{PlanLong}
 pub use Rattle.refusal.specs.Refusals.{next, outcome_by}
 unfoldable pub use Rattle.refusal.specs.Refusals.{first_refusal}
-pub use Rattle.neat.specs.Neat.{NeatJudged, NeatPlan, NeatPromises, block_neat, neat_answer_by, neat_checked, neat_outcome, neat_tree, neat_verdict, output_check}
+pub use Rattle.neat.specs.Neat.{NeatJudged, NeatPlan, NeatPromises, block_neat, neat_checked, neat_values, neat_tree, neat_verdict, output_check}
 pub use Rattle.neat.specs.Scan.{Advanced, AllMake, Fair, Kept, Known, Makes, Neatened, Numbered, Ready, Scannable, Stepped, Within, Writable, as_used, becomes, entry_of, most_kept, most_told, moved, nodes_for, put_when, remains, size_of, told, told_of, told_side, told_sides, unless_none, used_rect, used_with}
 unfoldable pub use Rattle.neat.specs.Scan.{neat_nodes, pieces_in}
 pub use Rattle.neat.specs.declared.Entry.{Entry}
 pub use Rattle.neat.specs.declared.Step.{Step}
 pub use Rattle.neat.specs.declared.Used.{Used}
+pub use Rattle.std.proofs.Common.{Ok, Err}
+pub use Rattle.promises.specs.Refusals.{Checked, Answer, passed, answer_by, verdict_of, outcome_of}
+pub use Rattle.promises.specs.declared.Report.{Report}
+pub use Rattle.std.specs.Result.{IsErrAnd}
+pub use Rattle.refusal.proofs.Results.{handed, said_by}

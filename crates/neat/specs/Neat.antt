@@ -10,8 +10,6 @@ use Rattle.cutting.specs.Shares.{stages}
 use Rattle.cutting.specs.Job.{Job, profit, copies_of}
 use Rattle.cutting.specs.Neat.{neat_of}
 use Rattle.refusal.specs.Refusals.{Check, Outcome, next, first_refusal, by_check, outcome_by}
-use Rattle.promises.specs.declared.Checked.{Checked}
-use Rattle.promises.specs.declared.Checked.TheVariants.{Passed}
 use Rattle.promises.specs.declared.Refusal.TheVariants.{PlanLong}
 use Rattle.promises.specs.declared.Choices.{Choices}
 use Rattle.job.specs.Block.{job_checks}
@@ -19,9 +17,8 @@ use Rattle.job.specs.Weights.{block_job}
 use Rattle.plan.specs.Plan.{plan_answer}
 use Rattle.plan.specs.Trees.{tree_in, DrawnAs, PlanOf}
 use Rattle.plan.specs.Calls.{JobPasses}
-use Rattle.promises.specs.declared.NeatAnswer.{NeatAnswer}
-use Rattle.promises.specs.declared.NeatAnswer.TheVariants as answer
-pub use Rattle.promises.specs.Calls.{neat_outcome}
+pub use Rattle.promises.specs.Calls.{neat_values}
+use Rattle.promises.specs.Refusals.{passed, Checked, Answer, answer_by, verdict_of, outcome_of}
 
 -- the neat plan of a plan's arrays
 abbrev pub neat_tree : Job → List ℕ → List ℕ → Tree laid.Piece
@@ -34,7 +31,7 @@ output_check t m n = (ltb m (node_count t) || ltb n (node_count t), PlanLong (no
 -- the verdict for a job that was read: the plan check's, then 21
 abbrev pub neat_checked : Job → (kinds operands old_kinds old_operands : List ℕ) → Checked
 neat_checked J kinds operands old_kinds old_operands =
-    next (plan_answer J kinds operands).verdict (first_refusal (output_check (neat_tree J kinds operands) (length old_kinds) (length old_operands) ∷ []))
+    next (verdict_of (plan_answer J kinds operands)) (first_refusal (output_check (neat_tree J kinds operands) (length old_kinds) (length old_operands) ∷ []))
 
 -- the verdict of the call: the job's checks come first
 abbrev pub neat_verdict : List ℕ → Choices → (kinds operands old_kinds old_operands : List ℕ) → Checked
@@ -44,13 +41,9 @@ neat_verdict s choices kinds operands old_kinds old_operands = next (first_refus
 abbrev pub block_neat : List ℕ → Choices → List ℕ → List ℕ → Tree laid.Piece
 block_neat s choices kinds operands = neat_tree (block_job s choices) kinds operands
 
--- the number of nodes, or the refusal
-abbrev pub neat_answer_by : Checked → ℕ → NeatAnswer
-neat_answer_by v n = by_check v (answer.Written n) answer.Refused
-
 -- what the call answers
-abbrev pub neat_answer : List ℕ → Choices → (kinds operands old_kinds old_operands : List ℕ) → NeatAnswer
-neat_answer s choices kinds operands old_kinds old_operands = neat_answer_by (neat_verdict s choices kinds operands old_kinds old_operands) (node_count (block_neat s choices kinds operands))
+abbrev pub neat_answer : List ℕ → Choices → (kinds operands old_kinds old_operands : List ℕ) → Answer ℕ
+neat_answer s choices kinds operands old_kinds old_operands = answer_by (neat_verdict s choices kinds operands old_kinds old_operands) (node_count (block_neat s choices kinds operands))
 
 -- the number and values that it answers
 abbrev pub neat_said : List ℕ → Choices → (kinds operands old_kinds old_operands : List ℕ) → Outcome
@@ -71,7 +64,7 @@ pub record NeatPlan (J : Job) (t : Tree laid.Piece) (kinds operands : List ℕ) 
   pub drawn : PlanOf J t kinds operands
   pub only : (u : Tree laid.Piece) → DrawnAs J u kinds operands → u ≡ t
   pub passes : PlanOf J (neat_of J t) (kinds_of (neat_of J t)) (operands_of (neat_of J t))
-  pub checked : (plan_answer J (kinds_of (neat_of J t)) (operands_of (neat_of J t))).verdict ≡ Passed
+  pub checked : verdict_of (plan_answer J (kinds_of (neat_of J t)) (operands_of (neat_of J t))) ≡ passed
   pub earns : profit J (neat_of J t) ≡ profit J t
   pub copies : (i : ℕ) → copies_of i (neat_of J t) ≡ copies_of i t
   pub no_more_nodes : node_count (neat_of J t) ≤ node_count t
@@ -81,12 +74,12 @@ pub record NeatPlan (J : Job) (t : Tree laid.Piece) (kinds operands : List ℕ) 
 
 -- where a job block and a plan's arrays pass their checks, what holds of the neat plan
 abbrev pub NeatJudged : List ℕ → Choices → List ℕ → List ℕ → Type 0
-NeatJudged s choices kinds operands = JobPasses s choices → (plan_answer (block_job s choices) kinds operands).verdict ≡ Passed → NeatPlan (block_job s choices) (tree_in kinds operands) kinds operands
+NeatJudged s choices kinds operands = JobPasses s choices → verdict_of (plan_answer (block_job s choices) kinds operands) ≡ passed → NeatPlan (block_job s choices) (tree_in kinds operands) kinds operands
 
 -- what the call promises of its answer and of the output arrays: answer and arrays are the definitions', number and values too; and where
 -- job and plan pass their checks, what holds of the neat plan
-pub record NeatPromises (s : List ℕ) (choices : Choices) (kinds operands old_kinds old_operands new_kinds new_operands : List ℕ) (r : NeatAnswer) : Type 0 where
+pub record NeatPromises (s : List ℕ) (choices : Choices) (kinds operands old_kinds old_operands new_kinds new_operands : List ℕ) (r : Answer ℕ) : Type 0 where
   pub answers : r ≡ neat_answer s choices kinds operands old_kinds old_operands
-  pub outcome : neat_outcome r ≡ neat_said s choices kinds operands old_kinds old_operands
+  pub outcome : outcome_of neat_values r ≡ neat_said s choices kinds operands old_kinds old_operands
   pub memory : NeatLeaves (neat_verdict s choices kinds operands old_kinds old_operands) (block_neat s choices kinds operands) old_kinds old_operands new_kinds new_operands
   pub plan : NeatJudged s choices kinds operands

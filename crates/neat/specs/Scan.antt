@@ -11,7 +11,6 @@ use Rattle.cutting.specs.Pieces.{◌⊑◌, lying}
 use Rattle.cutting.specs.Preorder.{preorder, kind_of, operand_of, node_count}
 use Rattle.cutting.specs.Neat.{joined, used, neat}
 use Rattle.cutting.specs.Relaxation.{Every}
-use Rattle.promises.specs.declared.Checked.{Checked}
 use Rattle.node.specs.Nodes.{of_piece}
 use Rattle.plan.specs.Plan.{node_of, nodes_in}
 use Rattle.plan.specs.Walk.{waiting, Walkable}
@@ -19,8 +18,8 @@ use Rattle.plan.specs.Trees.{trees_in}
 use Rattle.neat.specs.declared.Used.{Used}
 use Rattle.neat.specs.declared.Entry.{Entry}
 use Rattle.neat.specs.declared.Step.{Step}
-use Rattle.promises.specs.declared.NeatAnswer.{NeatAnswer}
-use Rattle.neat.specs.Neat.{neat_answer_by, NeatLeaves}
+use Rattle.promises.specs.Refusals.{answer_by, Checked, Answer}
+use Rattle.neat.specs.Neat.{NeatLeaves}
 
 -- the rectangle of a used size
 abbrev pub used_rect : Used → Rect
@@ -194,6 +193,6 @@ pub record Writable (kerf : ℕ) (size : laid.Piece → Rect) (plate : Rect) (ki
   pub operands_room : needed ≤ length old_operands
 
 -- what an answer to a job that was read says and leaves
-pub record Neatened (v : Checked) (t : Tree laid.Piece) (old_kinds old_operands new_kinds new_operands : List ℕ) (r : NeatAnswer) : Type 0 where
-  pub answers : r ≡ neat_answer_by v (node_count t)
+pub record Neatened (v : Checked) (t : Tree laid.Piece) (old_kinds old_operands new_kinds new_operands : List ℕ) (r : Answer ℕ) : Type 0 where
+  pub answers : r ≡ answer_by v (node_count t)
   pub memory : NeatLeaves v t old_kinds old_operands new_kinds new_operands

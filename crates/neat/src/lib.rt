@@ -24,7 +24,7 @@ use cutting::{kind_number, operand};
 use job::read_job;
 use node::decode;
 use plan::check_nodes;
-use promises::{Checked, Choices, Direction, JobRecord, NeatAnswer, Node, Refusal};
+use promises::{Choices, Direction, JobRecord, Node, Refusal};
 
 // A used size, in any unit: a side above 100,000,000 is told as one more, so that no sum is too great for its word.
 #[derive(Clone, Copy, Drop)]
@@ -342,31 +342,27 @@ fn neat_nodes(
     operands: &[u16],
     neat_kinds: &mut [u8],
     neat_operands: &mut [u16],
-) -> NeatAnswer
+) -> Result<u64, Refusal>
     requires { InRange (job_of job) }
     ensures { Neatened (neat_checked (job_of job) kinds.now operands.now neat_kinds.old neat_operands.old) (neat_tree (job_of job) kinds.now operands.now)
         neat_kinds.old neat_operands.old neat_kinds.new neat_operands.new result }
 {
-    let checked = check_nodes(job, kinds, operands);
-    let verdict = checked.verdict;
-    if let Checked::Refused(r) = verdict {
-        return NeatAnswer::Refused(r);
-    }
+    check_nodes(job, kinds, operands)?;
     let pieces = count_pieces(kinds);
     let needed = nodes_for(pieces);
     if neat_kinds.len() < needed {
-        return NeatAnswer::Refused(Refusal::PlanLong(needed as u64));
+        return Err(Refusal::PlanLong(needed as u64));
     }
     if neat_operands.len() < needed {
-        return NeatAnswer::Refused(Refusal::PlanLong(needed as u64));
+        return Err(Refusal::PlanLong(needed as u64));
     }
     if pieces == 0 {
         neat_kinds[0] = 0;
         neat_operands[0] = 0;
-        return NeatAnswer::Written(1);
+        return Ok(1);
     }
     write_nodes(job, kinds, operands, neat_kinds, neat_operands, needed);
-    NeatAnswer::Written(needed as u64)
+    Ok(needed as u64)
 }
 
 // The neat plan of a plan's arrays for a job block, in the first entries of the two output arrays. The plan is checked first; where a check
@@ -378,14 +374,9 @@ pub fn neat_plan(
     operands: &[u16],
     neat_kinds: &mut [u8],
     neat_operands: &mut [u16],
-) -> NeatAnswer
+) -> Result<u64, Refusal>
     ensures { NeatPromises block.now choices kinds.now operands.now neat_kinds.old neat_operands.old neat_kinds.new neat_operands.new result }
 {
-    let read = read_job(block, choices);
-    let verdict = read.verdict;
-    if let Checked::Refused(r) = verdict {
-        return NeatAnswer::Refused(r);
-    }
-    let job = read.job;
+    let job = read_job(block, choices)?;
     neat_nodes(job, kinds, operands, neat_kinds, neat_operands)
 }

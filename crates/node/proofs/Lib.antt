@@ -1,4 +1,3 @@
 mod Prelude
-pub mod Product
 pub mod Nodes
 pub mod Placed

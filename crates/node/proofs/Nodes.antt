@@ -1,5 +1,5 @@
 -- The checks of a node case by case, and the nodes that pass them: those that fit.
-use Rattle.node.proofs.Prelude.{◌≡◌, ◌∙◌, refl, sym, ap, ap₂, subst, Bool, true, false, not, ◌&&◌, List, ℕ, ◌+◌, ◌-◌, ◌*◌, ◌≤◌, ◌<◌, mul-le-mul, arith, T, leb, ltb, eqb, get_or, le-leb, lt-leb, le-ltb, lt-ltb, eqb-true, eqb-false, leb-true, leb-false, ltb-false, not-false, Rect, side, Direction, Length, Width, Node, Waste, Piece, Turned, Cut, kind_of, operand_of, fits_in, Job, laid, MayLie, true_fits_in, next, first_refusal, refuse_when, NodeKind, PieceNumber, AgainstGrain, Operand, Misfit, Excess, Passed, Refused, outside, next_passed, cons_passed, node_of, most_kind, unnumbered, against_grain, misplaced, misfit, excess, node_checks, lying_as, laying}
+use Rattle.node.proofs.Prelude.{◌≡◌, ◌∙◌, refl, sym, ap, ap₂, Bool, true, false, not, ◌&&◌, List, ℕ, ◌+◌, ◌-◌, ◌≤◌, ◌<◌, arith, T, leb, ltb, eqb, get_or, lt-leb, le-ltb, eqb-true, eqb-false, leb-false, ltb-false, not-false, Rect, side, Direction, Length, Width, Node, Waste, Piece, Turned, Cut, kind_of, operand_of, fits_in, Job, laid, MayLie, next, first_refusal, refuse_when, PieceNumber, AgainstGrain, Operand, Misfit, Excess, outside, next_passed, cons_passed, node_of, most_kind, unnumbered, against_grain, misplaced, misfit, excess, node_checks, lying_as, laying, passed, Checked}
 use Rattle.cutting.specs.Pieces as laid
 
 -- a kind and an operand by the node that they are
@@ -32,10 +32,6 @@ pub waste_kind : (k o : ℕ) → node_of k o ≡ Waste → k ≡ 0
 waste_kind k o p = waste_read (read k o) p
 
 module _ (J : Job) (c : List ℕ) (r : Rect) (k : ℕ) where
-  pub kind_refused : (kind o : ℕ) → most_kind J.turning < kind → first_refusal (node_checks J c r k kind o) ≡ Refused (NodeKind k)
-  unfolding first_refusal
-  kind_refused kind o h = let e : ltb (most_kind J.turning) kind ≡ true = lt-ltb (most_kind J.turning) kind h in simp e
-
   -- waste has check 14 alone
   pub waste_checks : (o : ℕ) → first_refusal (node_checks J c r k 0 o) ≡ refuse_when (not (eqb o 0)) (Operand k)
   unfolding first_refusal
@@ -60,32 +56,12 @@ module _ (J : Job) (c : List ℕ) (r : Rect) (k : ℕ) where
         (ap (λ v. next (refuse_when (leb J.count i) (PieceNumber k)) (next (refuse_when (J.grain i) (AgainstGrain k)) (next (refuse_when (not (fits_in (laid.quarter (J.size i)) r)) (Misfit k)) v))) (sym (next_passed (refuse_when (leb (J.demand i) (get_or c i 0)) (Excess k)))))
 
     module _ (b : Bool) (i : ℕ) (e : node_of kind o ≡ laying b i) where
-      pub number_refused : J.count ≤ i → first_refusal (node_checks J c r k kind o) ≡ Refused (PieceNumber k)
-      number_refused n = piece_checks b i e ∙ simp (le-leb J.count i n)
+      pub piece_verdict : {p g m x : Checked} → p ≡ refuse_when (leb J.count i) (PieceNumber k) → g ≡ refuse_when (b && J.grain i) (AgainstGrain k) → m ≡ refuse_when (not (fits_in (lying_as b (J.size i)) r)) (Misfit k)
+          → x ≡ refuse_when (leb (J.demand i) (get_or c i 0)) (Excess k) → first_refusal (node_checks J c r k kind o) ≡ next p (next g (next m x))
+      piece_verdict pe ge me xe = piece_checks b i e ∙ sym (λ j. next (pe j) (next (ge j) (next (me j) (xe j))))
 
-      pub grain_refused : i < J.count → (b && J.grain i) ≡ true → first_refusal (node_checks J c r k kind o) ≡ Refused (AgainstGrain k)
-      grain_refused n g = piece_checks b i e ∙ simp (lt-leb J.count i n, g)
-
-      pub misfit_refused : i < J.count → (b && J.grain i) ≡ false → fits_in (lying_as b (J.size i)) r ≡ false → first_refusal (node_checks J c r k kind o) ≡ Refused (Misfit k)
-      misfit_refused n g f = piece_checks b i e ∙ simp (lt-leb J.count i n, g, f)
-
-      pub excess_refused : i < J.count → (b && J.grain i) ≡ false → fits_in (lying_as b (J.size i)) r ≡ true → J.demand i ≤ get_or c i 0 → first_refusal (node_checks J c r k kind o) ≡ Refused (Excess k)
-      excess_refused n g f d = piece_checks b i e ∙ simp (lt-leb J.count i n, g, f, le-leb (J.demand i) (get_or c i 0) d)
-
-      pub piece_passes : i < J.count → (b && J.grain i) ≡ false → fits_in (lying_as b (J.size i)) r ≡ true → get_or c i 0 < J.demand i → first_refusal (node_checks J c r k kind o) ≡ Passed
+      pub piece_passes : i < J.count → (b && J.grain i) ≡ false → fits_in (lying_as b (J.size i)) r ≡ true → get_or c i 0 < J.demand i → first_refusal (node_checks J c r k kind o) ≡ passed
       piece_passes n g f d = piece_checks b i e ∙ simp (lt-leb J.count i n, g, f, lt-leb (J.demand i) (get_or c i 0) d)
-
--- a piece takes no more than the rectangle that it fits
-pub fits_area : (q r : Rect) → fits_in q r ≡ true → q.0 * q.1 ≤ r.0 * r.1
-fits_area q r f = let h = true_fits_in q r (subst T (sym f) tt) in mul-le-mul h.0 h.1
-
--- a position from 1 on is outside a cut's range where, with the kerf, it reaches the side
-pub past_side : (s k x : ℕ) → 1 ≤ x → leb s (x + k) ≡ outside 1 (s - k - 1) x
-past_side s k x h = go (leb s (x + k)) refl
-  where
-    go : (b : Bool) → leb s (x + k) ≡ b → b ≡ outside 1 (s - k - 1) x
-    go true e = let l = leb-true s (x + k) e in simp (le-ltb x 1 h, lt-ltb (s - k - 1) x (omega arith))
-    go false e = let l = leb-false s (x + k) e in simp (le-ltb x 1 h, le-ltb (s - k - 1) x (omega arith))
 
 -- a position in a cut's range, and one that is not outside it
 inside : (s k x : ℕ) → 1 ≤ x → x + k < s → outside 1 (s - k - 1) x ≡ false
@@ -148,7 +124,7 @@ free_turns : (g t : Bool) → g ≡ false → T t → T (not g && t)
 free_turns g t e h = rw e h
 
 -- such a node passes
-pub node_passes : (J : Job) (c : List ℕ) (r : Rect) (k : ℕ) (n : Node) → NodeFits J c r n → first_refusal (node_checks J c r k (kind_of n) (operand_of n)) ≡ Passed
+pub node_passes : (J : Job) (c : List ℕ) (r : Rect) (k : ℕ) (n : Node) → NodeFits J c r n → first_refusal (node_checks J c r k (kind_of n) (operand_of n)) ≡ passed
 node_passes J c r k Waste h = waste_checks J c r k 0
 node_passes J c r k (Piece i) h = piece_passes J c r k 1 i (omega (arith, least_kind J.turning)) false i refl h.0.0 refl h.1 h.2
 node_passes J c r k (Turned i) h =
@@ -170,7 +146,7 @@ node_read J c r k o (Turned i) (is_turned h) a b u d f g =
     let left = leb-false (J.demand o) (get_or c o 0) g in
     (ap (λ x. (x, o)) e.0, ((leb-false J.count o b, omega (arith, left), free_turns (J.grain o) J.turning u e.1), not-false (fits_in (laid J (laid.turned o)) r) f, left))
 
-pub node_passed : (J : Job) (c : List ℕ) (r : Rect) (at k o : ℕ) → first_refusal (node_checks J c r at k o) ≡ Passed
+pub node_passed : (J : Job) (c : List ℕ) (r : Rect) (at k o : ℕ) → first_refusal (node_checks J c r at k o) ≡ passed
     → ((k, o) ≡ pair_of (node_of k o)) × NodeFits J c r (node_of k o)
 node_passed J c r at k o p =
     let e = cons_passed _ _ _ p in

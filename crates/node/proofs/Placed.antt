@@ -1,48 +1,9 @@
--- What a node leaves: the sums stay within their bound, and the verdict, the sums and the copies are the definition's.
-use Rattle.node.proofs.Prelude.{◌≡◌, ◌∙◌, refl, sym, ap, subst, Bool, true, false, not, ◌&&◌, List, ℕ, ◌+◌, ◌-◌, ◌≤◌, ◌<◌, ◌^◌, arith, eqb, get_or, set, Direction, Cut, Rect, side, fits_in, Job, first_refusal, refuse_when, Refusal, Operand, Checked, Passed, Refused, Tally, NodeAnswer, outside, node_of, most_kind, node_checks, with_waste, with_piece, with_cut, tallied, copied, lying_as, laying, Sized, Grows, stopped, Placed}
-use Rattle.node.proofs.Nodes.{waste_checks, piece_passes, cut_checks}
-
--- the sums of fewer nodes
-pub sized_more : {m n : ℕ} {t : Tally} → m ≤ n → Sized m t → Sized n t
-sized_more h s = record { profit = omega (arith, s.profit); pieces = omega (arith, s.pieces); waste = omega (arith, s.waste); trim = omega (arith, s.trim); sawdust = omega (arith, s.sawdust) }
-
--- sums that stay
-pub grows_not : (t : Tally) → Grows t t
-grows_not t n s = sized_more (omega arith) s
-
--- sums that grow by less than 2 ^ 32: by waste, by a piece, by a cut
-pub waste_grows : (t : Tally) (a : ℕ) → a < 2 ^ 32 → Grows t (record { profit = t.profit; pieces = t.pieces; waste = t.waste + a; trim = t.trim; sawdust = t.sawdust })
-waste_grows t a h n s = record { profit = omega (arith, s.profit); pieces = omega (arith, s.pieces); waste = omega (arith, s.waste); trim = omega (arith, s.trim); sawdust = omega (arith, s.sawdust) }
-
-pub piece_grows : (t : Tally) (a b c : ℕ) → a < 2 ^ 32 → b < 2 ^ 32 → c < 2 ^ 32
-    → Grows t (record { profit = t.profit + a; pieces = t.pieces + b; waste = t.waste; trim = t.trim + c; sawdust = t.sawdust })
-piece_grows t a b c f g h n s = record { profit = omega (arith, s.profit); pieces = omega (arith, s.pieces); waste = omega (arith, s.waste); trim = omega (arith, s.trim); sawdust = omega (arith, s.sawdust) }
-
-pub cut_grows : (t : Tally) (a : ℕ) → a < 2 ^ 32 → Grows t (record { profit = t.profit; pieces = t.pieces; waste = t.waste; trim = t.trim; sawdust = t.sawdust + a })
-cut_grows t a h n s = record { profit = omega (arith, s.profit); pieces = omega (arith, s.pieces); waste = omega (arith, s.waste); trim = omega (arith, s.trim); sawdust = omega (arith, s.sawdust) }
-
--- a refused node did not pass
-never : {t : Tally} {r : Refusal} {a : NodeAnswer} {A : Type 0} → a ≡ stopped r t → a.verdict ≡ Passed → A
-never {t} {r} {a} {A} e h =
-    let f : a.verdict ≡ Refused r = ap (λ (x : NodeAnswer). x.verdict) e in
-    let z : ◌≡◌ {A = ℕ} 0 1 = cc in
-    absurd (let w : ⊥ = omega arith in w)
-
--- a node that is refused
-pub stops : (J : Job) (k kind o : ℕ) (r : Rect) (t : Tally) (c : List ℕ) (a : NodeAnswer) (x : Refusal) → a ≡ stopped x t →
-    first_refusal (node_checks J c r k kind o) ≡ Refused x → Placed J k kind o r t c a c
-stops J k kind o r t c a x e f =
-    record {
-      verdict = ap (λ (y : NodeAnswer). y.verdict) e ∙ sym f;
-      sums = λ p. never e p;
-      counts = λ p. never e p;
-      sized = rw e (grows_not t);
-    }
-
--- a waste node
-pub waste_placed : (J : Job) (k o : ℕ) (r : Rect) (t : Tally) (c : List ℕ) (v : Checked) (s : Tally) → v ≡ refuse_when (not (eqb o 0)) (Operand k)
-    → s ≡ with_waste r t → Grows t s → Placed J k 0 o r t c (record { verdict = v; tally = s }) c
-waste_placed J k o r t c v s e f g = record { verdict = e ∙ sym (waste_checks J c r k o); sums = λ p. f; counts = λ p. refl; sized = g }
+-- What a node leaves: its answer and the copies are the definition's, and the sums stay within their bound.
+use Rattle.node.proofs.Prelude.{◌≡◌, ◌∙◌, refl, sym, ap, subst, Bool, true, false, not, List, ℕ, ◌+◌, ◌-◌, ◌≤◌, eqb, get_or, set, Direction, Cut, Rect, side, Job, first_refusal, refuse_when, Refusal, Operand, Tally, outside, node_of, most_kind, node_checks, with_waste, with_piece, with_cut, tallied, copied, lying_as, laying, Grows, Placed, Ok, Err, passed, Checked, Answer}
+use Rattle.std.specs.Result.{IsErrAnd}
+use Rattle.refusal.specs.Refusals.{verdict_of}
+use Rattle.refusal.proofs.Results.{handed, refused_answer, given_answer}
+use Rattle.node.proofs.Nodes.{waste_checks, cut_checks}
 
 -- what a piece adds
 tallied_piece : (J : Job) (b : Bool) (i : ℕ) (r : Rect) (t : Tally) → tallied J (laying b i) r t ≡ with_piece (J.price i) (lying_as b (J.size i)) r t
@@ -53,32 +14,38 @@ copied_piece : (b : Bool) (i : ℕ) (c : List ℕ) → copied (laying b i) c ≡
 copied_piece false i c = refl
 copied_piece true i c = refl
 
--- a piece that passes
-pub piece_placed : (J : Job) (k kind o : ℕ) (r : Rect) (t : Tally) (c : List ℕ) (s : Tally) (copies : ℕ) (b : Bool) (i : ℕ) → kind ≤ most_kind J.turning → node_of kind o ≡ laying b i
-    → i < J.count → (b && J.grain i) ≡ false → fits_in (lying_as b (J.size i)) r ≡ true → get_or c i 0 < J.demand i
-    → s ≡ with_piece (J.price i) (lying_as b (J.size i)) r t → Grows t s → copies ≡ get_or c i 0 + 1 → Placed J k kind o r t c (record { verdict = Passed; tally = s }) (set c i copies)
-piece_placed J k kind o r t c s copies b i h e n u f d p g m = record {
-  verdict = sym (piece_passes J c r k kind o h b i e n u f d);
-  sums = λ q. p ∙ sym (ap (λ m. tallied J m r t) e ∙ tallied_piece J b i r t);
-  counts = λ q. ap (set c i) m ∙ sym (ap (λ m. copied m c) e ∙ copied_piece b i c);
-  sized = g;
-}
+module _ (J : Job) (k : ℕ) (r : Rect) (t : Tally) (c : List ℕ) where
+  -- a node that is refused
+  pub refused : (kind o : ℕ) (a : Answer Tally) {x : Refusal} → first_refusal (node_checks J c r k kind o) ≡ Err x → IsErrAnd a (λ y. y ≡ x) → Placed J k kind o r t c a c
+  refused kind o a e p = let h = handed a p in let v = ap verdict_of h in
+      record { answer = refused_answer _ _ a e p; counts = λ q. cc; sized = λ s q. cc }
 
--- a cut
-pub cut_placed : (J : Job) (k kind o : ℕ) (r : Rect) (t : Tally) (c : List ℕ) (v : Checked) (s : Tally) (d : Direction) (x kerf : ℕ) → v ≡ refuse_when (outside 1 (side d r - kerf - 1) x) (Operand k)
-    → s ≡ with_cut kerf d r t → Grows t s → J.kerf ≡ kerf → kind ≤ most_kind J.turning → node_of kind o ≡ Cut d x → Placed J k kind o r t c (record { verdict = v; tally = s }) c
-cut_placed J k kind o r t c v s d x kerf e f g b h n =
-    record {
-      verdict = e ∙ sym (cut_checks J c r k kind o h d x n ∙ ap (λ m. refuse_when (outside 1 (side d r - m - 1) x) (Operand k)) b);
-      sums = λ p. f ∙ sym (ap (λ m. tallied J m r t) n ∙ ap (λ m. with_cut m d r t) b);
-      counts = λ p. sym (ap (λ m. copied m c) n);
-      sized = g;
-    }
+  -- one that passes
+  placed : {kind o : ℕ} {s : Tally} {after : List ℕ} → first_refusal (node_checks J c r k kind o) ≡ passed → s ≡ tallied J (node_of kind o) r t → after ≡ copied (node_of kind o) c → Grows t s → Placed J k kind o r t c (Ok s) after
+  placed {s = s} e f g h = record { answer = given_answer _ _ e (ap Ok f); counts = λ q. g; sized = λ u q. (let w : s ≡ u = cc in subst (Grows t) w h) }
+
+  -- a waste node
+  module _ (o : ℕ) {v : Checked} (e : v ≡ refuse_when (not (eqb o 0)) (Operand k)) where
+    pub waste_verdict : first_refusal (node_checks J c r k 0 o) ≡ v
+    waste_verdict = waste_checks J c r k o ∙ sym e
+
+    pub waste_placed : {s : Tally} → v ≡ passed → s ≡ with_waste r t → Grows t s → Placed J k 0 o r t c (Ok s) c
+    waste_placed p f g = placed (waste_verdict ∙ p) f refl g
+
+  module _ (kind o : ℕ) (h : kind ≤ most_kind J.turning) where
+    -- a piece
+    pub piece_placed : (b : Bool) (i : ℕ) → node_of kind o ≡ laying b i → {s : Tally} {copies : ℕ} → first_refusal (node_checks J c r k kind o) ≡ passed
+        → s ≡ with_piece (J.price i) (lying_as b (J.size i)) r t → Grows t s → copies ≡ get_or c i 0 + 1 → Placed J k kind o r t c (Ok s) (set c i copies)
+    piece_placed b i e p f g m = placed p (f ∙ sym (ap (λ n. tallied J n r t) e ∙ tallied_piece J b i r t)) (ap (set c i) m ∙ sym (ap (λ n. copied n c) e ∙ copied_piece b i c)) g
+
+    -- a cut
+    module _ (d : Direction) (x kerf : ℕ) (n : node_of kind o ≡ Cut d x) (b : J.kerf ≡ kerf) {v : Checked} (e : v ≡ refuse_when (outside 1 (side d r - kerf - 1) x) (Operand k)) where
+      pub cut_verdict : first_refusal (node_checks J c r k kind o) ≡ v
+      cut_verdict = cut_checks J c r k kind o h d x n ∙ ap (λ m. refuse_when (outside 1 (side d r - m - 1) x) (Operand k)) b ∙ sym e
+
+      pub cut_placed : {s : Tally} → v ≡ passed → s ≡ with_cut kerf d r t → Grows t s → Placed J k kind o r t c (Ok s) c
+      cut_placed p f g = placed (cut_verdict ∙ p) (f ∙ sym (ap (λ m. tallied J m r t) n ∙ ap (λ m. with_cut m d r t) b)) (sym (ap (λ m. copied m c) n)) g
 
 -- a node whose kind is known
-pub placed_as : {J : Job} {k kind n o : ℕ} {r : Rect} {t : Tally} {c : List ℕ} {a : NodeAnswer} {after : List ℕ} → kind ≡ n → Placed J k n o r t c a after → Placed J k kind o r t c a after
+pub placed_as : {J : Job} {k kind n o : ℕ} {r : Rect} {t : Tally} {c : List ℕ} {a : Answer Tally} {after : List ℕ} → kind ≡ n → Placed J k n o r t c a after → Placed J k kind o r t c a after
 placed_as {J} {k} {kind} {n} {o} {r} {t} {c} {a} {after} e p = subst (λ x. Placed J k x o r t c a after) (sym e) p
-
--- a node whose place is known
-pub placed_at : {J : Job} {k m kind o : ℕ} {r : Rect} {t : Tally} {c : List ℕ} {a : NodeAnswer} {after : List ℕ} → k ≡ m → Placed J m kind o r t c a after → Placed J k kind o r t c a after
-placed_at {J} {k} {m} {kind} {o} {r} {t} {c} {a} {after} e p = subst (λ x. Placed J x kind o r t c a after) (sym e) p

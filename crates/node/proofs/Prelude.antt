@@ -1,16 +1,12 @@
 -- What the proofs of this crate take from libraries and from other crates, named once.
-pub use Prim.Native.Nat.{◌*◌, ◌+◌, ◌-◌, ◌<◌, ◌^◌, ◌≤◌, ℕ}
-pub use borrow.Author.Rules.{rules}
-pub use borrow.Author.Tests.{eqb-false, eqb-true, le-leb, le-ltb, leb-false, leb-true, lt-leb, lt-ltb, ltb-false, ne_eqb, not-false, not-true}
+pub use Prim.Native.Nat.{◌+◌, ◌-◌, ◌<◌, ◌≤◌, ℕ}
+pub use borrow.Author.Tests.{eqb-false, eqb-true, le-ltb, leb-false, lt-leb, ltb-false, not-false}
 pub use lib.Dec.{T, eqb, leb, ltb}
 pub use lib.ListN.{get_or, set}
-pub use lib.Pow.{pow-add, pow_pos}
 pub use mathlib.Core.Bool.{Bool, ◌&&◌, false, not, true}
 pub use mathlib.Core.List.{List}
-pub use mathlib.Core.Path.{◌∙◌, ◌≡◌, ap, ap₂, refl, subst, subst⁻¹, sym}
-pub use native.Mathlib.Nat.{le_of_lt, lt_of_le_of_lt, mul-le-mul, mul-le-mul_left, mul-lt-mul_of_pos_right}
+pub use mathlib.Core.Path.{◌∙◌, ◌≡◌, ap, ap₂, refl, subst, sym}
 pub use native.Mathlib.Omega.{arith}
-pub use Rattle.cutting.proofs.Pieces.{true_fits_in}
 pub use Rattle.cutting.specs.Job.{Job, MayLie, laid}
 pub use Rattle.cutting.specs.Pieces.{fits_in}
 pub use Rattle.cutting.specs.Preorder.{kind_of, operand_of}
@@ -18,8 +14,6 @@ pub use Rattle.cutting.specs.Sides.{rect_of}
 pub use Rattle.cutting.specs.Tree.{Rect, side}
 pub use Rattle.job.proofs.Checks.{cons_passed, next_passed}
 pub use Rattle.job.specs.Block.{job_from, outside}
-pub use Rattle.promises.specs.declared.Checked.{Checked}
-pub use Rattle.promises.specs.declared.Checked.TheVariants.{Passed, Refused}
 pub use Rattle.promises.specs.declared.Direction.{Direction}
 pub use Rattle.promises.specs.declared.Direction.TheVariants.{Length, Width}
 pub use Rattle.promises.specs.declared.Node.{Node}
@@ -29,6 +23,7 @@ pub use Rattle.promises.specs.declared.Refusal.TheVariants.{AgainstGrain, Excess
 pub use Rattle.refusal.specs.Refusals.{next, refuse_when}
 unfoldable pub use Rattle.refusal.specs.Refusals.{first_refusal}
 pub use Rattle.node.specs.Nodes.{against_grain, copied, excess, misfit, misplaced, most_kind, node_checks, node_of, tallied, unnumbered, with_cut, with_piece, with_waste}
-pub use Rattle.node.specs.Placed.{Grows, Placed, Sized, laying, lying_as, stopped}
-pub use Rattle.node.specs.declared.NodeAnswer.{NodeAnswer}
+pub use Rattle.node.specs.Placed.{Grows, Placed, Sized, laying, lying_as}
 pub use Rattle.node.specs.declared.Tally.{Tally}
+pub use Rattle.std.proofs.Common.{Ok, Err}
+pub use Rattle.promises.specs.Refusals.{Checked, Answer, passed}

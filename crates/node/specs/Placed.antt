@@ -1,15 +1,13 @@
--- What the functions of one node promise: sums that stay within 64 bits, and the node's verdict, sums and copies.
+-- What the functions of one node promise: sums that stay within 64 bits, and the node's answer and copies.
 use Rattle.std.specs.Prelude.{◌≡◌, Bool, true, false, List, ℕ, ◌+◌, ◌*◌, ◌≤◌, ◌^◌}
 use Rattle.cutting.specs.Tree.{Rect}
 use Rattle.promises.specs.declared.Node.{Node}
 use Rattle.promises.specs.declared.Node.TheVariants.{Piece, Turned}
 use Rattle.cutting.specs.Pieces.{quarter}
 use Rattle.cutting.specs.Job.{Job}
-use Rattle.refusal.specs.Refusals.{first_refusal}
-use Rattle.promises.specs.declared.Refusal.{Refusal}
-use Rattle.promises.specs.declared.Checked.TheVariants.{Passed, Refused}
+use Rattle.std.specs.Result.{ForOk}
+use Rattle.refusal.specs.Refusals.{Answer, answer_by, verdict_of, passed, first_refusal}
 use Rattle.node.specs.declared.Tally.{Tally}
-use Rattle.node.specs.declared.NodeAnswer.{NodeAnswer}
 use Rattle.node.specs.Nodes.{node_of, node_checks, tallied, copied}
 
 -- a size as a piece lies, upright or turned
@@ -34,13 +32,8 @@ pub record Sized (n : ℕ) (t : Tally) : Type 0 where
 abbrev pub Grows : Tally → Tally → Type 0
 Grows t s = (n : ℕ) → Sized n t → Sized (n + 1) s
 
--- a node that is refused: the sums stay
-abbrev pub stopped : Refusal → Tally → NodeAnswer
-stopped r t = record { verdict = Refused r; tally = t }
-
 -- node k on a rectangle: its checks decide, and where they pass it is counted
-pub record Placed (J : Job) (k kind operand : ℕ) (r : Rect) (t : Tally) (copies : List ℕ) (a : NodeAnswer) (after : List ℕ) : Type 0 where
-  pub verdict : a.verdict ≡ first_refusal (node_checks J copies r k kind operand)
-  pub sums : a.verdict ≡ Passed → a.tally ≡ tallied J (node_of kind operand) r t
-  pub counts : a.verdict ≡ Passed → after ≡ copied (node_of kind operand) copies
-  pub sized : Grows t a.tally
+pub record Placed (J : Job) (k kind operand : ℕ) (r : Rect) (t : Tally) (copies : List ℕ) (a : Answer Tally) (after : List ℕ) : Type 0 where
+  pub answer : a ≡ answer_by (first_refusal (node_checks J copies r k kind operand)) (tallied J (node_of kind operand) r t)
+  pub counts : verdict_of a ≡ passed → after ≡ copied (node_of kind operand) copies
+  pub sized : ForOk a (Grows t)

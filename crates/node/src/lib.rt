@@ -11,10 +11,10 @@ ghost use Rattle.cutting.specs.Areas.{area, breadth};
 ghost use Rattle.cutting.specs.Job.{Job};
 ghost use Rattle.job.specs.Block.{outside, job_from};
 ghost use Rattle.node.specs.Nodes.{node_of, most_kind, with_waste, with_piece, with_cut};
-ghost use Rattle.node.specs.Placed.{Sized, Grows, stopped, Placed, lying_as, laying};
+ghost use Rattle.node.specs.Placed.{Sized, Grows, Placed, lying_as, laying};
 
 use cutting::{Sides, cut_side, fits, turn};
-use promises::{Checked, Direction, Node, Refusal};
+use promises::{Direction, Node, Refusal};
 use refusal::refuse_if;
 
 // The sums over the nodes read: profit, and the areas of pieces, waste nodes, trim and sawdust.
@@ -51,26 +51,11 @@ struct PieceEntry {
     turned: bool,
 }
 
-// What one node answers: its verdict, and the sums with it where it passes.
-#[derive(Clone, Copy, Drop)]
-pub struct NodeAnswer {
-    pub verdict: Checked,
-    pub tally: Tally,
-}
-
-// One copy more, below the demand.
-fn one_more(copies: u16, demand: u16) -> u16
-    requires { copies < demand }
-    ensures { result ≡ copies + 1 }
-{
-    copies + 1
-}
-
 // The area of a rectangle.
 fn area(s: Sides) -> u64
     ensures { (result ≡ area (rect_of s)) × (result < 2 ^ 32) }
 {
-    (s.length as u64) * (s.width as u64)
+    s.length as u64 * s.width as u64
 }
 
 // The node of a kind from 0 to 4.
@@ -104,21 +89,14 @@ fn lay(upright: Sides, turned: bool) -> Sides
 fn against_grain(turned: bool, grain: u8) -> bool
     ensures { result ≡ (turned && eqb grain 1) }
 {
-    if turned {
-        return grain == 1;
-    }
-    false
+    turned && grain == 1
 }
 
 // Whether a cut's position is outside 1 to the side less the kerf less 1.
 fn outside_cut(d: Direction, x: u16, kerf: u16, whole: Sides) -> bool
     ensures { result ≡ outside 1 (side d (rect_of whole) - kerf - 1) x }
 {
-    if x < 1 {
-        return true;
-    }
-    let whole_side = cut_side(d, whole);
-    (whole_side as u32) <= (x as u32) + (kerf as u32)
+    x < 1 || cut_side(d, whole) as u32 <= x as u32 + kerf as u32
 }
 
 // The side along which a cut runs.
@@ -136,13 +114,9 @@ fn add_waste(room: Sides, t: Tally) -> Tally
     requires { Sized 4094 t }
     ensures { (result ≡ with_waste (rect_of room) t) × Grows t result }
 {
-    let waste = area(room);
     Tally {
-        profit: t.profit,
-        pieces: t.pieces,
-        waste: t.waste + waste,
-        trim: t.trim,
-        sawdust: t.sawdust,
+        waste: t.waste + area(room),
+        ..t
     }
 }
 
@@ -154,11 +128,10 @@ fn add_piece(price: u32, piece: Sides, room: Sides, t: Tally) -> Tally
     let used = area(piece);
     let left = area(room) - used;
     Tally {
-        profit: t.profit + (price as u64),
+        profit: t.profit + price as u64,
         pieces: t.pieces + used,
-        waste: t.waste,
         trim: t.trim + left,
-        sawdust: t.sawdust,
+        ..t
     }
 }
 
@@ -171,47 +144,19 @@ fn add_cut(d: Direction, kerf: u16, room: Sides, t: Tally) -> Tally
         length: kerf,
         width: cut_breadth(d, room),
     };
-    let dust = area(taken);
     Tally {
-        profit: t.profit,
-        pieces: t.pieces,
-        waste: t.waste,
-        trim: t.trim,
-        sawdust: t.sawdust + dust,
-    }
-}
-
-// A node that lays a piece.
-fn piece_entry(at: u16, number: u16, turned: bool) -> PieceEntry
-    ensures { result ≡ record { at = at; number = number; turned = turned } }
-{
-    PieceEntry {
-        at: at,
-        number: number,
-        turned: turned,
-    }
-}
-
-// The node is refused.
-fn refuse(r: Refusal, t: Tally) -> NodeAnswer
-    ensures { result ≡ stopped r t }
-{
-    NodeAnswer {
-        verdict: Checked::Refused(r),
-        tally: t,
+        sawdust: t.sawdust + area(taken),
+        ..t
     }
 }
 
 // A waste node.
-fn place_waste(at: u16, operand: u16, room: Sides, t: Tally) -> NodeAnswer
+fn place_waste(at: u16, operand: u16, room: Sides, t: Tally) -> Result<Tally, Refusal>
     requires { Sized 4094 t }
     ensures { (J : Job) (copies : List ℕ) → Placed J at 0 operand (rect_of room) t copies result copies }
 {
-    let verdict = refuse_if(operand != 0, Refusal::Operand(at));
-    NodeAnswer {
-        verdict: verdict,
-        tally: add_waste(room, t),
-    }
+    refuse_if(operand != 0, Refusal::Operand(at))?;
+    Ok(add_waste(room, t))
 }
 
 // A piece node: its copy is counted.
@@ -226,49 +171,43 @@ fn place_piece(
     node: PieceEntry,
     room: Sides,
     t: Tally,
-) -> NodeAnswer
+) -> Result<Tally, Refusal>
     requires { Sized 4094 t × (count ≤ 64) }
     ensures { (l w kerf : ℕ) (turning full : Bool) (kind operand : ℕ) → kind ≤ most_kind turning → node_of kind operand ≡ laying node.turned node.number
         → Placed (job_from l w kerf turning full count kind_lengths.now kind_widths.now prices.now demands.now grains.now) node.at kind operand (rect_of room) t copies.old result copies.new }
 {
-    let i = node.number;
-    if count <= i {
-        return refuse(Refusal::PieceNumber(node.at), t);
-    }
-    let k = i as usize;
-    if against_grain(node.turned, grains[k]) {
-        return refuse(Refusal::AgainstGrain(node.at), t);
-    }
+    let at = node.at;
+    refuse_if(count <= node.number, Refusal::PieceNumber(at))?;
+    let k = node.number as usize;
+    refuse_if(
+        against_grain(node.turned, grains[k]),
+        Refusal::AgainstGrain(at),
+    )?;
     let upright = Sides {
         length: kind_lengths[k],
         width: kind_widths[k],
     };
     let piece = lay(upright, node.turned);
-    if !fits(piece, room) {
-        return refuse(Refusal::Misfit(node.at), t);
-    }
-    let have = copies[k];
-    let most = demands[k];
-    if most <= have {
-        return refuse(Refusal::Excess(node.at), t);
-    }
-    copies[k] = one_more(have, most);
-    NodeAnswer {
-        verdict: Checked::Passed,
-        tally: add_piece(prices[k], piece, room, t),
-    }
+    refuse_if(!fits(piece, room), Refusal::Misfit(at))?;
+    refuse_if(demands[k] <= copies[k], Refusal::Excess(at))?;
+    copies[k] += 1;
+    Ok(add_piece(prices[k], piece, room, t))
 }
 
 // A cut: its sawdust is counted, and its parts are left to be filled.
-fn place_cut(d: Direction, x: u16, kerf: u16, at: u16, room: Sides, t: Tally) -> NodeAnswer
+fn place_cut(
+    d: Direction,
+    x: u16,
+    kerf: u16,
+    at: u16,
+    room: Sides,
+    t: Tally,
+) -> Result<Tally, Refusal>
     requires { Sized 4094 t }
     ensures { (J : Job) (copies : List ℕ) (kind operand : ℕ) → J.kerf ≡ kerf → kind ≤ most_kind J.turning → node_of kind operand ≡ Cut d x → Placed J at kind operand (rect_of room) t copies result copies }
 {
-    let verdict = refuse_if(outside_cut(d, x, kerf, room), Refusal::Operand(at));
-    NodeAnswer {
-        verdict: verdict,
-        tally: add_cut(d, kerf, room, t),
-    }
+    refuse_if(outside_cut(d, x, kerf, room), Refusal::Operand(at))?;
+    Ok(add_cut(d, kerf, room, t))
 }
 
 // One node on its rectangle, after the copies before it: checks 12 to 16 and 36, and where they pass it is counted.
@@ -283,19 +222,15 @@ pub fn check_node(
     node: NodeEntry,
     room: Sides,
     t: Tally,
-) -> NodeAnswer
+) -> Result<Tally, Refusal>
     requires { Sized 4094 t × (rules.count ≤ 64) }
     ensures { (l w : ℕ) (full : Bool) → Placed (job_from l w rules.kerf rules.turning full rules.count kind_lengths.now kind_widths.now prices.now demands.now grains.now) node.at node.kind node.operand (rect_of room) t copies.old result copies.new }
 {
     let at = node.at;
-    let operand = node.operand;
-    if last_kind(rules.turning) < node.kind {
-        return refuse(Refusal::NodeKind(at), t);
-    }
-    let decoded = decode(node.kind, operand);
-    match decoded {
-        Node::Waste => place_waste(at, operand, room, t),
-        Node::Piece(i) => place_piece(
+    refuse_if(last_kind(rules.turning) < node.kind, Refusal::NodeKind(at))?;
+    match decode(node.kind, node.operand) {
+        Node::Waste => place_waste(at, node.operand, room, t),
+        Node::Piece(number) => place_piece(
             copies,
             kind_lengths,
             kind_widths,
@@ -303,11 +238,15 @@ pub fn check_node(
             demands,
             grains,
             rules.count,
-            piece_entry(at, i, false),
+            PieceEntry {
+                at,
+                number,
+                turned: false,
+            },
             room,
             t,
         ),
-        Node::Turned(i) => place_piece(
+        Node::Turned(number) => place_piece(
             copies,
             kind_lengths,
             kind_widths,
@@ -315,7 +254,11 @@ pub fn check_node(
             demands,
             grains,
             rules.count,
-            piece_entry(at, i, true),
+            PieceEntry {
+                at,
+                number,
+                turned: true,
+            },
             room,
             t,
         ),

@@ -6,8 +6,7 @@ use Rattle.cutting.specs.Tree.{Tree}
 use Rattle.cutting.specs.Pieces.{Piece}
 use Rattle.cutting.specs.Preorder.{kinds_of, operands_of, node_count}
 use Rattle.cutting.specs.Job.{Job, widened, capacity, bound_of, bound_plan}
-use Rattle.refusal.specs.Refusals.{Check, next, first_refusal}
-use Rattle.promises.specs.declared.Checked.{Checked}
+use Rattle.refusal.specs.Refusals.{Answer, Check, Checked, answer_by, next, first_refusal, verdict_of}
 use Rattle.promises.specs.declared.Choices.{Choices}
 use Rattle.promises.specs.declared.JobRecord.{JobRecord}
 use Rattle.job.specs.Block.{job_of, ReadAlike}
@@ -15,11 +14,12 @@ use Rattle.job.specs.Weights.{weight_in, weight_checks}
 use Rattle.job.proofs.Kerf.{kerf_none_read}
 use Rattle.plan.specs.Plan.{proceed, plan_answer}
 use Rattle.bound.specs.Bound.{Memory, Leaves, list_after, bound_report, memory_checks}
-use Rattle.promises.specs.declared.WriteAnswer.{WriteAnswer}
-use Rattle.writer.specs.Write.{nodes_verdict, reported, write_answer_by}
+use Rattle.writer.specs.Write.{nodes_verdict, reported}
 use Rattle.promises.specs.declared.Certificate.{Certificate}
-use Rattle.certificate.specs.Certificate.{compared, handed_on}
+use Rattle.certificate.specs.Certificate.{plan_profit, compared}
 use Rattle.old_blocks.specs.OldBlocks.{CallsAlike, KerfNoneCalls}
+use Rattle.promises.specs.Refusals.{Checked, Answer, answer_by, verdict_of}
+use Rattle.promises.specs.declared.WriteReport.{WriteReport}
 
 -- the checks of a block and its record
 abbrev Block : Type 0
@@ -47,15 +47,15 @@ module _ (ws : List ℕ) (m : Memory) where
     abbrev writes : Block → Checked
     writes b = next (next (accepts b) (stores b)) (nodes_verdict (plan b) kinds operands)
 
-    abbrev written : Block → WriteAnswer
-    written b = write_answer_by (writes b) (reported (bound_report (widened (J b)) (weight_in ws) (q b)) (node_count (plan b)))
+    abbrev written : Block → Answer WriteReport
+    written b = answer_by (writes b) (reported (bound_report (widened (J b)) (weight_in ws) (q b)) (node_count (plan b)))
 
     -- the certificate's verdict and answer
     abbrev plans : Block → Checked
-    plans b = next (accepts b) (plan_answer (J b) kinds operands).verdict
+    plans b = next (accepts b) (verdict_of (plan_answer (J b) kinds operands))
 
-    abbrev certified : Block → Certificate
-    certified b = handed_on (next (plans b) (stores b)) (compared (plan_answer (J b) kinds operands).report.profit (bound_of (J b) (weight_in ws)))
+    abbrev certified : Block → Answer Certificate
+    certified b = answer_by (next (plans b) (stores b)) (compared (plan_profit (J b) kinds operands) (bound_of (J b) (weight_in ws)))
 
 module _ {s : List ℕ} {choices : Choices} {z : List ℕ} {other : Choices} (same : ReadAlike s choices z other) where
   pub calls_alike : CallsAlike s choices z other

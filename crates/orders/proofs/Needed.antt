@@ -1,11 +1,13 @@
 -- The plates needed: the least number that is enough by the bound, so that fewer cannot hold the order, at the job's own sizes and at true
 -- sizes that it stands for. And the two sums of the code.
 use Rattle.orders.proofs.Prelude.{◌≡◌, refl, sym, ◌∙◌, ap, ap₂, ℕ, zero, suc, ◌+◌, ◌-◌, ◌*◌, ◌/◌, ◌%◌, ◌≤◌, ◌<◌, mul-le-mul_right, div-add-mod', mod-lt, ℕ_discrete, arith, lt-ltb, le-ltb, eq-eqb, ne_eqb, sum, only, Job, SolidKinds, NoneBetter, SameKinds, relaxed_none, order_worth, endless, plates_by, plates_for, left_beside, plates_needed, Fewest, NoFewer}
+use Rattle.std.specs.Int.{div_ceil}
+use Rattle.std.proofs.lemmas.Grind.{div_ceil_times}
 use Rattle.orders.proofs.Orders.{not_held_beside}
 
 -- the plates needed where the bound is above 0
-pub plates_over : (b c : ℕ) → 0 < b → (c + (b - 1)) / b ≡ plates_for b c
-plates_over b c h = sym (ap (λ t. plates_by t b c) (ne_eqb b 0 (λ e. absurd (omega (arith, e, h)))))
+plates_up : (b c : ℕ) → 0 < b → (c + (b - 1)) / b ≡ plates_for b c
+plates_up b c h = sym (ap (λ t. plates_by t b c) (ne_eqb b 0 (λ e. absurd (omega (arith, e, h)))))
 
 -- where it is 0 and something is left
 pub plates_endless : (b c : ℕ) → b ≤ 0 → 0 < c → endless ≡ plates_for b c
@@ -43,12 +45,29 @@ module _ (b c : ℕ) where
       go zero f = f
       go (suc n) f = absurd (omega (arith, up_least h 0 (omega (arith, f)), e))
 
+  -- no other number is enough by so little
+  up_only : (q : ℕ) → c ≤ q * b → q * b < c + b → q ≡ up
+  up_only q k l = omega (arith, no_more, no_fewer)
+    where
+      pos : 0 < b
+      pos = omega (arith, k, l)
+
+      no_more : up < q → ⊥
+      no_more m = omega (arith, up_enough pos, l, mul-le-mul_right {m = up + 1} {n = q} b (omega (arith, m)))
+
+      no_fewer : q < up → ⊥
+      no_fewer m = omega (arith, up_least pos q m, k)
+
+-- the plates needed where the bound is above 0
+pub plates_over : (b c : ℕ) → 0 < b → div_ceil c b ≡ plates_for b c
+plates_over b c h = let k = div_ceil_times c b h in up_only b c (div_ceil c b) k.0 k.1 ∙ plates_up b c h
+
 -- the plates needed are the fewest
 pub fewest : (b c : ℕ) → Fewest b c (plates_for b c)
 fewest b c = go (ℕ_discrete b 0) (ℕ_discrete c 0)
   where
     go : Dec (b ≡ 0) → Dec (c ≡ 0) → Fewest b c (plates_for b c)
-    go (no d) e = rw (← plates_over b c (omega (arith, d))) (record {
+    go (no d) e = rw (← plates_up b c (omega (arith, d))) (record {
       enough = λ h. up_enough b c h;
       least = up_least b c (omega (arith, d));
       none = up_none b c (omega (arith, d));

@@ -1,35 +1,55 @@
--- The sum of demand times amount, as a loop over the kinds makes it.
-use Rattle.orders.proofs.Prelude.{◌≡◌, refl, ◌∙◌, ap, ap₂, List, ℕ, suc, ◌+◌, ◌*◌, ◌≤◌, ◌<◌, mul-le-mul, arith, get_or, most_kinds, most_demand, most_price, sum, most_worth, amount_in}
-
--- a number of copies times an amount, each in its range
-pub times_low : (copies amount : ℕ) → copies ≤ most_demand → amount ≤ most_price → copies * amount ≤ most_demand * most_price
-times_low copies amount h k = mul-le-mul h k
+-- The sum of demand times amount, as the code makes it: over the pairs of both lists.
+use Rattle.std.proofs.Common.{[], ◌∷◌, map, take, length, length-take}
+use Rattle.std.specs.Prelude as std
+use Rattle.std.specs.List.{fold, zip}
+use Rattle.std.proofs.lemmas.Slice.Zip.{length-zip}
+use Rattle.orders.proofs.Prelude.{◌≡◌, refl, ◌∙◌, List, ℕ, zero, suc, ◌+◌, ◌*◌, ◌≤◌, mul-le-mul, arith, get_or, most_kinds, most_demand, most_price, sum, sum_le, most_worth, amount_in}
+use Rattle.orders.specs.Orders.{Summable}
+use Rattle.orders.proofs.Orders.{sum_same}
+use Rattle.orders.proofs.Racks.{sum_first}
 
 -- the term of a kind
 abbrev term : List ℕ → List ℕ → ℕ → ℕ
 term demands amounts i = get_or demands i 0 * amount_in amounts i
 
--- where the loop stands before kind i
-pub record Summing (count : ℕ) (demands amounts : List ℕ) (i total : ℕ) : Type 0 where
-  pub within : i ≤ count
-  pub is : total ≡ sum i (term demands amounts)
-  pub low : total ≤ most_demand * most_price * i
+-- the pairs of the first n kinds, multiplied and summed
+abbrev pub paired : ℕ → List ℕ → List ℕ → ℕ
+paired n demands amounts = std.sum (map (λ (p : ℕ × ℕ). p.0 * p.1) (zip (take n demands) amounts))
 
-module _ (count : ℕ) (demands amounts : List ℕ) where
-  -- it begins
-  pub summing_begins : Summing count demands amounts 0 0
-  unfolding sum
-  summing_begins = record { within = omega arith; is = refl; low = omega arith }
+-- a sum that begins at k
+sum_from : (k : ℕ) (xs : List ℕ) → fold ◌+◌ k xs ≡ k + std.sum xs
+sum_from k [] = omega arith
+sum_from k (x ∷ xs) = omega (arith, sum_from (k + x) xs, sum_from (0 + x) xs)
 
-  -- one kind more
-  pub summing_goes : (i total v : ℕ) → i < count → Summing count demands amounts i total → (v ≡ term demands amounts i) × (v ≤ most_demand * most_price) → Summing count demands amounts (i + 1) (total + v)
-  unfolding sum
-  summing_goes i total v h w e =
-      let s : suc i ≡ i + 1 = omega arith in
-      record { within = omega (arith, h); is = ap₂ ◌+◌ w.is e.0 ∙ ap (λ n. sum n (term demands amounts)) s; low = omega (arith, w.low, e.1) }
+-- it is the sum over the kinds
+paired_sum : (n : ℕ) (demands amounts : List ℕ) → n ≤ length demands → n ≤ length amounts → paired n demands amounts ≡ sum n (term demands amounts)
+unfolding sum
+paired_sum zero demands amounts h k = refl
+paired_sum (suc n) [] amounts h k = absurd (omega (arith, h))
+paired_sum (suc n) (d ∷ ds) [] h k = absurd (omega (arith, k))
+paired_sum (suc n) (d ∷ ds) (a ∷ rest) h k = omega (
+  arith,
+  sum_from (0 + d * a) (map (λ (p : ℕ × ℕ). p.0 * p.1) (zip (take n ds) rest)),
+  paired_sum n ds rest (omega (arith, h)) (omega (arith, k)),
+  sum_first n (term (d ∷ ds) (a ∷ rest)),
+)
 
-  -- all kinds are summed
-  pub summing_ends : (i total : ℕ) → count ≤ most_kinds → count ≤ i → Summing count demands amounts i total → (total ≡ sum count (term demands amounts)) × (total ≤ most_worth)
-  summing_ends i total few h w =
-      let e : i ≡ count = omega (arith, h, w.within) in
-      (w.is ∙ ap (λ n. sum n (term demands amounts)) e, omega (arith, w.low, w.within, few))
+-- and no order is worth more
+sum_low : (count : ℕ) (demands amounts : List ℕ) → Summable count demands amounts → sum count (term demands amounts) ≤ most_worth
+sum_low count demands amounts s = omega (
+  arith,
+  s.few,
+  sum_le count (term demands amounts) (λ i. most_demand * most_price) (λ i l. mul-le-mul (s.demands_low i l) (s.amounts_low i l)),
+  sum_same count (most_demand * most_price),
+)
+
+-- so a total that is the pairs' sum is the order's
+pub paired_is : (total count : ℕ) (demands amounts : List ℕ) → length demands ≡ most_kinds → Summable count demands amounts → total ≡ paired count demands amounts
+    → (total ≡ sum count (term demands amounts)) × (total ≤ most_worth)
+paired_is total count demands amounts long s e =
+    let k : total ≡ sum count (term demands amounts) = e ∙ paired_sum count demands amounts (omega (arith, long, s.few)) s.there in
+    (k, omega (arith, k, sum_low count demands amounts s))
+
+-- no more pairs than kinds
+pub paired_few : (count : ℕ) (demands amounts : List ℕ) → count ≤ most_kinds → length (zip (take count demands) amounts) ≤ most_kinds
+paired_few count demands amounts few = omega (arith, length-zip (take count demands) amounts, length-take count demands, few)

@@ -47,9 +47,8 @@ fn turned(piece: Piece) -> Piece
 {
     Piece {
         size: turn(piece.size),
-        price: piece.price,
-        weight: piece.weight,
         node: piece.node + 1,
+        ..piece
     }
 }
 
@@ -59,10 +58,10 @@ fn put_piece(pieces: &mut [u32; 640], j: usize, piece: Piece)
     ensures { pieces.new ≡ with_piece pieces.old j piece }
 {
     let at = 5 * j;
-    pieces[at] = piece.size.length as u32;
-    pieces[at + 1] = piece.size.width as u32;
+    pieces[at] = u32::from(piece.size.length);
+    pieces[at + 1] = u32::from(piece.size.width);
     pieces[at + 2] = piece.price;
-    pieces[at + 3] = piece.weight as u32;
+    pieces[at + 3] = u32::from(piece.weight);
     pieces[at + 4] = piece.node;
 }
 

@@ -1,5 +1,5 @@
 -- A tree's arrays draw the tree, and no other: those of a plan that passes draw the tree of the plan.
-use Rattle.plan.proofs.Prelude.{◌≡◌, refl, sym, ◌∙◌, ap, ap₂, subst, List, [], ◌∷◌, ◌++◌, append-nil, ℕ, ◌≤◌, Cut, Tree, waste, piece, cut, preorder, Job, Passed, node_back, nodes_in, plan_answer, with_node, trees_in, first_tree, tree_in, DrawnAs, PlanOf}
+use Rattle.plan.proofs.Prelude.{◌≡◌, refl, sym, ◌∙◌, ap, ap₂, subst, List, [], ◌∷◌, ◌++◌, append-nil, ℕ, ◌≤◌, Cut, Tree, waste, piece, cut, preorder, Job, node_back, nodes_in, plan_answer, with_node, trees_in, first_tree, tree_in, DrawnAs, PlanOf, Report, Ok}
 use Rattle.cutting.specs.Pieces as laid
 use Rattle.plan.proofs.Preorder.{written, written_cut, arrays_written}
 use Rattle.plan.proofs.Plans.{plans_checked}
@@ -27,7 +27,7 @@ module _ (J : Job) (kinds operands : List ℕ) (t : Tree laid.Piece) (drawn : Dr
   drawn_is = sym (ap first_tree trees_are)
 
 -- the arrays of a plan that passes draw its tree
-pub plan_is : (J : Job) → J.count ≤ 64 → (kinds operands : List ℕ) → (plan_answer J kinds operands).verdict ≡ Passed → PlanOf J (tree_in kinds operands) kinds operands
+pub plan_is : (J : Job) → J.count ≤ 64 → (kinds operands : List ℕ) {s : Report} → plan_answer J kinds operands ≡ Ok s → PlanOf J (tree_in kinds operands) kinds operands
 plan_is J few kinds operands p =
-    let t = (plans_checked J few kinds operands).tree p in
+    let t = (plans_checked J few kinds operands).tree _ p in
     subst (λ u. PlanOf J u kinds operands) (drawn_is J kinds operands t.0 t.1.drawn) t.1

@@ -1,18 +1,23 @@
 -- A walk that passes has read the nodes of a guillotine tree that keeps every demand.
-use Rattle.plan.proofs.Prelude.{◌≡◌, ◌∙◌, refl, sym, ap, subst, true, List, [], ◌∷◌, ◌++◌, ℕ, zero, suc, ◌+◌, ◌≤◌, ◌<◌, ℕ_discrete, arith, T, length, get_or, set, length-append, length-set, get_or-set_same, get_or-set_other, Direction, Length, Width, Node, Waste, Piece, Turned, Cut, Rect, side, part, Tree, waste, piece, cut, preorder, node_count, fits_in, Job, laid, GuillotineTree, true_fits_in, count_cut, Refusal, Checked, Passed, Refused, pair_of, PieceFits, NodeFits, node_passed, Report, PlanAnswer, node_of, report_after, proceed, walk}
+use Rattle.plan.proofs.Prelude.{◌≡◌, ◌∙◌, refl, sym, ap, subst, true, List, [], ◌∷◌, ◌++◌, ℕ, zero, suc, ◌+◌, ◌≤◌, ◌<◌, ℕ_discrete, arith, T, length, get_or, set, length-append, length-set, get_or-set_same, get_or-set_other, Direction, Length, Width, Node, Waste, Piece, Turned, Cut, Rect, side, part, Tree, waste, piece, cut, preorder, node_count, fits_in, Job, laid, GuillotineTree, true_fits_in, count_cut, Refusal, pair_of, PieceFits, NodeFits, node_passed, Report, node_of, report_after, proceed, walk, Ok, Err, passed, Checked, Answer, verdict_of}
 use Rattle.cutting.specs.Pieces as laid
 use Rattle.plan.proofs.Counts.{second, added}
 use Rattle.plan.proofs.Preorder.{written, written_cut}
 use Rattle.plan.proofs.Trees.{node_walks}
 
 -- what follows from a refusal that passed
-pub no_pass : {r : Refusal} {A : Type 0} → Refused r ≡ Passed → A
+pub no_pass : {r : Refusal} {A : Type 0} → Err r ≡ passed → A
 no_pass e = absurd (let z : ◌≡◌ {A = ℕ} 0 1 = cc in let w : ⊥ = omega arith in w)
 
 -- a check passed where what follows it did
-pub proceed_passed : (v : Checked) (a : PlanAnswer) → (proceed v a).verdict ≡ Passed → v ≡ Passed
-proceed_passed Passed a e = refl
-proceed_passed (Refused r) a e = no_pass e
+pub proceed_passed : {A : Type 0} (v : Checked) (a : Answer A) → verdict_of (proceed v a) ≡ passed → (v ≡ passed) × (verdict_of a ≡ passed)
+proceed_passed (Ok _) a e = (refl, e)
+proceed_passed (Err r) a e = no_pass e
+
+-- and what follows has the value
+pub proceed_value : {A : Type 0} (v : Checked) (a : Answer A) {s : A} → proceed v a ≡ Ok s → (v ≡ passed) × (a ≡ Ok s)
+proceed_value (Ok _) a e = (refl, e)
+proceed_value (Err r) a e = no_pass (ap verdict_of e)
 
 -- a piece that fits is no larger
 fits_true : (q r : Rect) → fits_in q r ≡ true → (q.0 ≤ r.0) × (q.1 ≤ r.1)
@@ -52,11 +57,11 @@ module _ (J : Job) (few : J.count ≤ 64) where
 
   -- every list of at most m nodes that passes is parsed
   abbrev Parses : ℕ → Type 0
-  Parses m = (k : ℕ) (ns : List (ℕ × ℕ)) (r : Rect) (rs : List Rect) (s : Report) → length ns ≤ m → Kept s → (walk J k ns (r ∷ rs) s).verdict ≡ Passed → Parsed k ns r rs s
+  Parses m = (k : ℕ) (ns : List (ℕ × ℕ)) (r : Rect) (rs : List Rect) (s : Report) → length ns ≤ m → Kept s → verdict_of (walk J k ns (r ∷ rs) s) ≡ passed → Parsed k ns r rs s
 
   -- after a node that fits
   after_node : (m : ℕ) → Parses m → (k : ℕ) (n : Node) (ns : List (ℕ × ℕ)) (r : Rect) (rs : List Rect) (s : Report) → length ns ≤ m → Kept s → NodeFits J s.copies r n
-      → (walk J k (pair_of n ∷ ns) (r ∷ rs) s).verdict ≡ Passed → Parsed k (pair_of n ∷ ns) r rs s
+      → verdict_of (walk J k (pair_of n ∷ ns) (r ∷ rs) s) ≡ passed → Parsed k (pair_of n ∷ ns) r rs s
   unfolding added preorder node_count
   after_node m parse k Waste ns r rs s l h f p = record { tree = waste; left = ns; nodes = refl; on = tt; goes = node_walks J k Waste ns r rs s f; kept = h }
   after_node m parse k (Piece i) ns r rs s l h f p =
@@ -66,9 +71,9 @@ module _ (J : Job) (few : J.count ≤ 64) where
   after_node m parse k (Cut d x) ns r rs s l h f p =
       let w = node_walks J k (Cut d x) ns r rs s f in
       let z = report_after J (Cut d x) r s in
-      let a = parse (k + 1) ns (part d x r) (second J d x r ∷ rs) z l h (ap (λ (z : PlanAnswer). z.verdict) (sym w) ∙ p) in
+      let a = parse (k + 1) ns (part d x r) (second J d x r ∷ rs) z l h (ap verdict_of (sym w) ∙ p) in
       let less : length a.left ≤ m = omega (arith, ap length a.nodes, length-append (written a.tree) a.left) in
-      let b = parse (k + 1 + node_count a.tree) a.left (second J d x r) rs (added J a.tree (part d x r) z) less a.kept (ap (λ (z : PlanAnswer). z.verdict) (sym (w ∙ a.goes)) ∙ p) in
+      let b = parse (k + 1 + node_count a.tree) a.left (second J d x r) rs (added J a.tree (part d x r) z) less a.kept (ap verdict_of (sym (w ∙ a.goes)) ∙ p) in
       record {
         tree = cut d x a.tree b.tree;
         left = b.left;
@@ -83,9 +88,9 @@ module _ (J : Job) (few : J.count ≤ 64) where
   unfolding walk
   step m parse k [] r rs s l h p = no_pass p
   step m parse k (n ∷ ns) r rs s l h p =
-      let u = node_passed J s.copies r k n.0 n.1 (proceed_passed _ _ p) in
+      let u = node_passed J s.copies r k n.0 n.1 (proceed_passed _ _ p).0 in
       subst (λ (x : ℕ × ℕ). Parsed k (x ∷ ns) r rs s) (sym u.0)
-      (after_node m parse k (node_of n.0 n.1) ns r rs s (omega arith) h u.1 (subst (λ (x : ℕ × ℕ). (walk J k (x ∷ ns) (r ∷ rs) s).verdict ≡ Passed) u.0 p))
+      (after_node m parse k (node_of n.0 n.1) ns r rs s (omega arith) h u.1 (subst (λ (x : ℕ × ℕ). verdict_of (walk J k (x ∷ ns) (r ∷ rs) s) ≡ passed) u.0 p))
 
   pub parse : (m : ℕ) → Parses m
   unfolding walk

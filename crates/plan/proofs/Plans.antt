@@ -1,29 +1,13 @@
 -- A plan passes exactly when its arrays are the preorder of a guillotine tree on the plate that keeps every demand, has at most 4,095 nodes
--- and no idle cut; it then reports that tree's own profit, copies and areas, and else zeros.
-use Rattle.plan.proofs.Prelude.{◌≡◌, ◌∙◌, refl, sym, ap, ap₂, subst, List, [], ◌∷◌, ◌++◌, append-nil, ℕ, ◌+◌, ◌-◌, ◌≤◌, ◌<◌, zero-add, dec_lt, arith, ne_eqb, length, get_or, length-replicate, get_or-replicate, ext_get_or, Length, Width, Rect, Tree, waste, piece, cut, total, IdleFree, preorder, node_count, Job, GuillotineTree, OnPlate, copies_of, lie_kind, areas_sum, next, first_refusal, Refusal, Checked, Passed, Refused, entries, passed_both, entries_length, entries_in, entries_past, idle_checks, tree_checks, idle_tree, passed_free, free_passed, Report, PlanAnswer, plan_checks, walk_answer, plan_answer, walk, node_of, node_checks, parts, report_after, nodes_in, passed, proceed, empty_report, DrawnAs, tree_report, Reports, ChecksPlan}
+-- and no idle cut; it then reports that tree's own profit, copies and areas.
+use Rattle.plan.proofs.Prelude.{◌≡◌, ◌∙◌, refl, sym, ap, ap₂, List, [], ◌∷◌, ◌++◌, append-nil, ℕ, ◌+◌, ◌-◌, ◌≤◌, ◌<◌, zero-add, dec_lt, arith, ne_eqb, length, get_or, length-replicate, get_or-replicate, ext_get_or, Length, Width, Tree, waste, piece, cut, total, IdleFree, preorder, node_count, Job, GuillotineTree, OnPlate, copies_of, lie_kind, areas_sum, next, first_refusal, entries, passed_both, entries_length, entries_in, entries_past, idle_checks, tree_checks, idle_tree, passed_free, free_passed, Report, plan_checks, walk_answer, plan_answer, walk, nodes_in, proceed, empty_report, DrawnAs, tree_report, Reports, ChecksPlan, verdict_of, passed, Ok, Err, Checked, Answer}
 use Rattle.cutting.specs.Pieces as laid
 use Rattle.plan.proofs.Walk.{nodes_length}
 use Rattle.plan.proofs.Whole.{whole_counts, walks_on, verdict_is}
 use Rattle.plan.proofs.Counts.{added, added_profit, added_pieces, added_waste, added_trim, added_sawdust, added_length, added_copies}
 use Rattle.plan.proofs.Preorder.{written, count_written, arrays_written, kinds_length, operands_length, written_kinds, written_operands}
 use Rattle.plan.proofs.Trees.{tree_walks}
-use Rattle.plan.proofs.Parse.{no_pass, proceed_passed, Kept, parse}
-
--- a refused plan reports zeros
-abbrev Zeroed : PlanAnswer → Type 0
-Zeroed a = (r : Refusal) → a.verdict ≡ Refused r → a.report ≡ empty_report
-
-proceed_zeros : (v : Checked) (a : PlanAnswer) → Zeroed a → Zeroed (proceed v a)
-proceed_zeros Passed a h = h
-proceed_zeros (Refused r) a h = λ x e. refl
-
-walk_zeros : (J : Job) (k : ℕ) (ns : List (ℕ × ℕ)) (rs : List Rect) (s : Report) → Zeroed (walk J k ns rs s)
-unfolding walk
-walk_zeros J k [] [] s = λ r e. no_pass (sym e)
-walk_zeros J k (n ∷ ns) [] s = λ r e. refl
-walk_zeros J k [] (q ∷ rs) s = λ r e. refl
-walk_zeros J k (n ∷ ns) (q ∷ rs) s = proceed_zeros (first_refusal (node_checks J s.copies q k n.0 n.1)) _
-    (walk_zeros J (k + 1) ns (parts J.kerf (node_of n.0 n.1) q ++ rs) (report_after J (node_of n.0 n.1) q s))
+use Rattle.plan.proofs.Parse.{no_pass, proceed_passed, proceed_value, Kept, parse}
 
 -- a tree has no copy of a kind past the job's
 none_past : (J : Job) (t : Tree laid.Piece) (l w : ℕ) → GuillotineTree J l w t → (i : ℕ) → J.count ≤ i → copies_of i t ≡ 0
@@ -34,7 +18,7 @@ none_past J (cut Length x a b) l w g i h = omega (arith, none_past J a x w g.2 i
 none_past J (cut Width x a b) l w g i h = omega (arith, none_past J a l x g.2 i h, none_past J b l (w - x - J.kerf) g.3 i h)
 
 -- where every rectangle is filled, the walk passes only at the end of the nodes
-pub ended : (J : Job) (k : ℕ) (left : List (ℕ × ℕ)) (s : Report) → (walk J k left [] s).verdict ≡ Passed → (left ≡ []) × (walk J k left [] s ≡ passed s)
+pub ended : (J : Job) (k : ℕ) (left : List (ℕ × ℕ)) (s : Report) → verdict_of (walk J k left [] s) ≡ passed → (left ≡ []) × (walk J k left [] s ≡ Ok s)
 unfolding walk
 ended J k [] s p = (refl, refl)
 ended J k (n ∷ ns) s p = no_pass p
@@ -50,6 +34,10 @@ some_node (cut d x a b) = omega arith
 same_report : {p p' q q' w w' m m' d d' : ℕ} {c c' : List ℕ} → p ≡ p' → c ≡ c' → q ≡ q' → w ≡ w' → m ≡ m' → d ≡ d'
     → ◌≡◌ {A = Report} (record { profit = p; copies = c; pieces = q; waste = w; trim = m; sawdust = d }) (record { profit = p'; copies = c'; pieces = q'; waste = w'; trim = m'; sawdust = d' })
 same_report a b c d e f = cc
+
+-- two answers with one value
+pub same_value : {s z : Report} → ◌≡◌ {A = Answer Report} (Ok s) (Ok z) → s ≡ z
+same_value e = cc
 
 -- the empty report has 64 entries, all 0
 pub empty_length : length empty_report.copies ≡ 64
@@ -84,7 +72,7 @@ module _ (J : Job) (few : J.count ≤ 64) where
 
   module _ (kinds operands : List ℕ) where
     -- a tree's arrays pass the walk
-    passes : (t : Tree laid.Piece) → DrawnAs J t kinds operands → walk_answer J kinds operands ≡ passed (whole t)
+    passes : (t : Tree laid.Piece) → DrawnAs J t kinds operands → walk_answer J kinds operands ≡ Ok (whole t)
     unfolding walk
     passes t h =
         let a = ap length h.kinds_are ∙ kinds_length t in
@@ -95,12 +83,12 @@ module _ (J : Job) (few : J.count ≤ 64) where
         ∙ tree_walks J few t 0 [] J.plate [] empty_report h.on_plate (empty_length, λ i l. omega (arith, empty_copies i (omega (arith, l, few)), h.demands i l))
 
     -- arrays that pass it are a tree's
-    parsed : length kinds ≡ length operands → 1 ≤ length kinds → length kinds ≤ 4095 → (walk_answer J kinds operands).verdict ≡ Passed → (t : Tree laid.Piece) × DrawnAs J t kinds operands × (walk_answer J kinds operands ≡ passed (whole t))
+    parsed : length kinds ≡ length operands → 1 ≤ length kinds → length kinds ≤ 4095 → verdict_of (walk_answer J kinds operands) ≡ passed → (t : Tree laid.Piece) × DrawnAs J t kinds operands × (walk_answer J kinds operands ≡ Ok (whole t))
     parsed same some most p =
         let w = walks_on J kinds operands same some most in
         let kept : Kept J few empty_report = (empty_length, λ i l. omega (arith, empty_copies i (omega (arith, l, few)))) in
-        let u = parse J few (length (nodes_in kinds operands)) 0 (nodes_in kinds operands) J.plate [] empty_report (omega arith) kept (ap (λ (a : PlanAnswer). a.verdict) (sym w) ∙ p) in
-        let z = ended J (0 + node_count u.tree) u.left (whole u.tree) (ap (λ (a : PlanAnswer). a.verdict) (sym (w ∙ u.goes)) ∙ p) in
+        let u = parse J few (length (nodes_in kinds operands)) 0 (nodes_in kinds operands) J.plate [] empty_report (omega arith) kept (ap verdict_of (sym w) ∙ p) in
+        let z = ended J (0 + node_count u.tree) u.left (whole u.tree) (ap verdict_of (sym (w ∙ u.goes)) ∙ p) in
         let e : nodes_in kinds operands ≡ written u.tree = u.nodes ∙ ap (λ l. written u.tree ++ l) z.0 ∙ append-nil (written u.tree) in (
           u.tree,
           record {
@@ -114,55 +102,42 @@ module _ (J : Job) (few : J.count ≤ 64) where
         )
 
 -- arrays that pass the walk have one length, from 1 to 4,095
-pub walked_counts : (J : Job) (kinds operands : List ℕ) → (walk_answer J kinds operands).verdict ≡ Passed → (length kinds ≡ length operands) × (1 ≤ length kinds) × (length kinds ≤ 4095)
+pub walked_counts : (J : Job) (kinds operands : List ℕ) → verdict_of (walk_answer J kinds operands) ≡ passed → (length kinds ≡ length operands) × (1 ≤ length kinds) × (length kinds ≤ 4095)
 unfolding walk_answer
-walked_counts J kinds operands p = whole_counts kinds operands (proceed_passed (first_refusal (plan_checks kinds operands)) (walk J 0 (nodes_in kinds operands) (J.plate ∷ []) empty_report) p)
+walked_counts J kinds operands p = whole_counts kinds operands (proceed_passed (first_refusal (plan_checks kinds operands)) (walk J 0 (nodes_in kinds operands) (J.plate ∷ []) empty_report) p).0
 
 -- they are drawn as a tree, and report it
-drawn : (J : Job) → J.count ≤ 64 → (kinds operands : List ℕ) → (walk_answer J kinds operands).verdict ≡ Passed → (t : Tree laid.Piece) × DrawnAs J t kinds operands × Reports J t (walk_answer J kinds operands).report
+drawn : (J : Job) → J.count ≤ 64 → (kinds operands : List ℕ) {s : Report} → walk_answer J kinds operands ≡ Ok s → (t : Tree laid.Piece) × DrawnAs J t kinds operands × Reports J t s
 drawn J few kinds operands p =
-    let g = walked_counts J kinds operands p in
-    let t = parsed J few kinds operands g.0 g.1 g.2 p in
-    let r = ap (λ (a : PlanAnswer). a.report) t.2 ∙ whole_own J few t.0 t.1.on_plate in
+    let g = walked_counts J kinds operands (ap verdict_of p) in
+    let t = parsed J few kinds operands g.0 g.1 g.2 (ap verdict_of p) in
+    let r = same_value (sym p ∙ t.2) ∙ whole_own J few t.0 t.1.on_plate in
     (t.0, t.1, record { own = r; areas = ap (λ (s : Report). s.pieces + s.waste + s.trim + s.sawdust) r ∙ areas_sum J t.0 J.plate.0 J.plate.1 t.1.on_plate })
 
--- an answer by its parts
-answer_of : {a : PlanAnswer} {v : Checked} {s : Report} → a.verdict ≡ v → a.report ≡ s → a ≡ record { verdict = v; report = s }
-answer_of e f = λ i. record { verdict = e i; report = f i }
-
 module _ (J : Job) (few : J.count ≤ 64) (kinds operands : List ℕ) where
-  abbrev walked : PlanAnswer
+  abbrev walked : Answer Report
   walked = walk_answer J kinds operands
 
   -- the verdict of check 26
   abbrev idleness : Checked
   idleness = first_refusal (idle_checks 0 kinds)
 
-  walked_zeros : Zeroed walked
-  unfolding walk_answer
-  walked_zeros = proceed_zeros (first_refusal (plan_checks kinds operands)) _ (walk_zeros J 0 (nodes_in kinds operands) (J.plate ∷ []) empty_report)
-
   -- is that of the tree
   idle_drawn : (t : Tree laid.Piece) → DrawnAs J t kinds operands → idleness ≡ first_refusal (tree_checks 0 t)
   idle_drawn t d = ap first_refusal (ap (idle_checks 0) d.kinds_are ∙ idle_tree t 0)
 
   -- and decides for every tree
-  judged : (t : Tree laid.Piece) → DrawnAs J t kinds operands → (plan_answer J kinds operands).verdict ≡ first_refusal (tree_checks 0 t)
-  judged t d = verdict_is J kinds operands ∙ ap (λ (a : PlanAnswer). next a.verdict idleness) (passes J few kinds operands t d) ∙ idle_drawn t d
+  judged : (t : Tree laid.Piece) → DrawnAs J t kinds operands → verdict_of (plan_answer J kinds operands) ≡ first_refusal (tree_checks 0 t)
+  judged t d = verdict_is J kinds operands ∙ ap (λ (a : Answer Report). next (verdict_of a) idleness) (passes J few kinds operands t d) ∙ idle_drawn t d
 
-  -- where both pass, the answer is the walk's
-  both_pass : next walked.verdict idleness ≡ Passed → plan_answer J kinds operands ≡ walked
-  unfolding plan_answer
-  both_pass p = ap (λ v. proceed v walked) p
-
-  -- so it is where no tree that the arrays draw has an idle cut
+  -- where no tree that the arrays draw has an idle cut, the answer is the walk's
   unidle : ((t : Tree laid.Piece) → DrawnAs J t kinds operands → IdleFree t) → plan_answer J kinds operands ≡ walked
   unfolding plan_answer
-  unidle free = go walked.verdict refl
+  unidle free = go walked refl
     where
-      go : (v : Checked) → walked.verdict ≡ v → plan_answer J kinds operands ≡ walked
-      go Passed e = let t = drawn J few kinds operands e in both_pass (ap₂ next e (idle_drawn t.0 t.1 ∙ free_passed t.0 0 (free t.0 t.1)))
-      go (Refused r) e = ap (λ v. proceed (next v idleness) walked) e ∙ sym (answer_of e (walked_zeros r e))
+      go : (a : Answer Report) → walked ≡ a → plan_answer J kinds operands ≡ walked
+      go (Ok s) e = let t = drawn J few kinds operands e in ap (λ v. proceed v walked) (ap₂ next (ap verdict_of e) (idle_drawn t.0 t.1 ∙ free_passed t.0 0 (free t.0 t.1)))
+      go (Err r) e = ap (λ v. proceed (next v idleness) walked) (ap verdict_of e) ∙ sym e
 
   -- the whole check passes exactly for the plans of trees, and reports the tree
   pub plans_checked : ChecksPlan Unit J kinds operands walked (plan_answer J kinds operands)
@@ -171,20 +146,19 @@ module _ (J : Job) (few : J.count ≤ 64) (kinds operands : List ℕ) where
       record {
         before = λ p. tt;
         passes = λ u t h. judged t h.drawn ∙ free_passed t 0 h.idle_free;
-        tree = λ p. (let both = proceed_passed (next walked.verdict idleness) walked p in
-            let v = passed_both walked.verdict idleness both in
-            let t = drawn J few kinds operands v.0 in
-            (t.0, record { drawn = t.1; idle_free = passed_free t.0 0 (sym (idle_drawn t.0 t.1) ∙ v.1) }, subst (λ (a : PlanAnswer). Reports J t.0 a.report) (sym (both_pass both)) t.2));
-        zeros = proceed_zeros (next walked.verdict idleness) walked walked_zeros;
+        tree = λ s p. (let w = proceed_value (next (verdict_of walked) idleness) walked p in
+            let v = passed_both (verdict_of walked) idleness w.0 in
+            let t = drawn J few kinds operands w.1 in
+            (t.0, record { drawn = t.1; idle_free = passed_free t.0 0 (sym (idle_drawn t.0 t.1) ∙ v.1) }, t.2));
         idle = λ u t d. judged t d;
         old_table = unidle;
       }
 
 -- a check before the others
-pub checked_after : {J : Job} {kinds operands : List ℕ} {old a : PlanAnswer} {Before All : Type 0} (v : Checked) → (v ≡ Passed → ChecksPlan Before J kinds operands old a)
-    → (All → (v ≡ Passed) × Before) → (v ≡ Passed → Before → All) → ChecksPlan All J kinds operands (proceed v old) (proceed v a)
-checked_after Passed f apart both =
+pub checked_after : {J : Job} {kinds operands : List ℕ} {old a : Answer Report} {Before All : Type 0} (v : Checked) → (v ≡ passed → ChecksPlan Before J kinds operands old a)
+    → (All → (v ≡ passed) × Before) → (v ≡ passed → Before → All) → ChecksPlan All J kinds operands (proceed v old) (proceed v a)
+checked_after (Ok _) f apart both =
     let c = f refl in
-    record { passes = λ b. c.passes (apart b).1; before = λ p. both refl (c.before p); tree = c.tree; zeros = c.zeros; idle = λ b. c.idle (apart b).1; old_table = c.old_table }
-checked_after (Refused r) f apart both =
-    record { passes = λ b t h. no_pass (apart b).0; before = λ p. no_pass p; tree = λ p. no_pass p; zeros = λ x e. refl; idle = λ b t d. no_pass (apart b).0; old_table = λ h. refl }
+    record { passes = λ b. c.passes (apart b).1; before = λ p. both refl (c.before p); tree = c.tree; idle = λ b. c.idle (apart b).1; old_table = c.old_table }
+checked_after (Err r) f apart both =
+    record { passes = λ b t h. no_pass (apart b).0; before = λ p. no_pass p; tree = λ s p. no_pass (ap verdict_of p); idle = λ b t d. no_pass (apart b).0; old_table = λ h. refl }

@@ -1,6 +1,6 @@
 -- The walk step by step: the node at a place, what one node that passes or is refused makes of the walk, and the rectangles that wait in
 -- two arrays.
-use Rattle.plan.proofs.Prelude.{◌≡◌, ◌∙◌, refl, sym, ap, ap₂, subst, List, [], ◌∷◌, ◌++◌, ℕ, zero, suc, ◌+◌, ◌-◌, ◌≤◌, ◌<◌, arith, add-one, length, get_or, set, drop, replicate, drop_of_length-le, length-set, get_or-set_same, get_or-set_other, Direction, Node, Waste, Piece, Turned, Cut, Sides, Rect, side, part, rect_of, sides_of, Job, by_check, Refusal, NodeMissing, Passed, Refused, JobRecord, job_from, job_of, Tally, NodeEntry, NodeAnswer, Rules, Sized, Placed, NodeFits, node_passed, Report, TreeAnswer, node_of, parts, report_after, plan_report, empty_report, tree_passed, tree_stopped, tree_walk, nodes_in, waiting, no_sums, rules_of, entry_at, CutInside, Held, Opens}
+use Rattle.plan.proofs.Prelude.{◌≡◌, ◌∙◌, refl, sym, ap, ap₂, subst, List, [], ◌∷◌, ◌++◌, ℕ, zero, suc, ◌+◌, ◌-◌, ◌≤◌, ◌<◌, arith, add-one, length, get_or, set, drop, replicate, drop_of_length-le, length-set, get_or-set_same, get_or-set_other, Direction, Node, Waste, Piece, Turned, Cut, Sides, Rect, side, part, rect_of, sides_of, Job, Refusal, NodeMissing, JobRecord, job_from, job_of, Tally, NodeEntry, Rules, Sized, Placed, NodeFits, node_passed, Report, TreeWalk, node_of, parts, report_after, plan_report, empty_report, tree_passed, tree_walk, nodes_in, waiting, no_sums, rules_of, entry_at, CutInside, Held, Opens, Ok, Err, Answer, verdict_of, proceed, first_refusal, node_checks, IsErrAnd, handed, value_answered, refusal_answered, refuse_when, lt-ltb, ltb}
 
 -- two arrays of one length have as many nodes
 pub nodes_length : (kinds operands : List ℕ) → length kinds ≡ length operands → length (nodes_in kinds operands) ≡ length kinds
@@ -18,7 +18,7 @@ nodes_suc (a ∷ ks) (b ∷ os) (suc k) h l = nodes_suc ks os k (omega arith) (o
 
 module _ (J : Job) (kinds operands : List ℕ) (same : length kinds ≡ length operands) where
   -- the walk over a tree from node k on
-  abbrev pub from : ℕ → List Rect → Tally → List ℕ → TreeAnswer
+  abbrev pub from : ℕ → List Rect → Tally → List ℕ → Answer TreeWalk
   from k rs t copies = tree_walk J k (drop k (nodes_in kinds operands)) rs (plan_report t copies)
 
   module _ (k : ℕ) (more : k < length kinds) where
@@ -31,27 +31,27 @@ module _ (J : Job) (kinds operands : List ℕ) (same : length kinds ≡ length o
     unfolding tree_walk
     over t copies = rw here
 
-    module _ {r : Rect} (rs : List Rect) {t : Tally} {copies : List ℕ} {a : NodeAnswer} {after : List ℕ}
+    module _ {r : Rect} (rs : List Rect) {t : Tally} {copies : List ℕ} {a : Answer Tally} {after : List ℕ}
         (placed : Placed J k (get_or kinds k 0) (get_or operands k 0) r t copies a after) where
       -- what follows the node
-      abbrev then : TreeAnswer
+      abbrev then : Answer TreeWalk
       then = tree_walk J (k + 1) (drop (k + 1) (nodes_in kinds operands)) (parts J.kerf (node_of (get_or kinds k 0) (get_or operands k 0)) r ++ rs) (report_after J (node_of (get_or kinds k 0) (get_or operands k 0)) r (plan_report t copies))
 
-      opens_to : from k (r ∷ rs) t copies ≡ by_check a.verdict then (λ x. tree_stopped (Refused x))
+      opens_to : from k (r ∷ rs) t copies ≡ proceed (first_refusal (node_checks J copies r k (get_or kinds k 0) (get_or operands k 0))) then
       unfolding tree_walk
-      opens_to = rw here (ap (λ v. by_check v then (λ x. tree_stopped (Refused x))) (sym placed.verdict))
+      opens_to = rw here refl
 
       -- a node that is refused ends the walk
-      pub stops : {x : Refusal} → a.verdict ≡ Refused x → from k (r ∷ rs) t copies ≡ tree_stopped a.verdict
-      stops e = opens_to ∙ ap (λ v. by_check v then (λ x. tree_stopped (Refused x))) e ∙ sym (ap tree_stopped e)
+      pub stops : {x : Refusal} → a ≡ Err x → from k (r ∷ rs) t copies ≡ Err x
+      stops e = opens_to ∙ ap (λ v. proceed v then) (refusal_answered _ _ (sym placed.answer ∙ e))
 
       -- the walk goes on after one that passes
-      pub steps : a.verdict ≡ Passed → from k (r ∷ rs) t copies ≡ from (k + 1) (parts J.kerf (node_of (get_or kinds k 0) (get_or operands k 0)) r ++ rs) a.tally after
-      steps e = opens_to ∙ ap (λ v. by_check v then (λ x. tree_stopped (Refused x))) e
-          ∙ ap₂ (λ s c. from (k + 1) (parts J.kerf (node_of (get_or kinds k 0) (get_or operands k 0)) r ++ rs) s c) (sym (placed.sums e)) (sym (placed.counts e))
+      pub steps : {u : Tally} → a ≡ Ok u → from k (r ∷ rs) t copies ≡ from (k + 1) (parts J.kerf (node_of (get_or kinds k 0) (get_or operands k 0)) r ++ rs) u after
+      steps e = let p = value_answered _ _ (sym placed.answer ∙ e) in opens_to ∙ ap (λ v. proceed v then) p.0
+          ∙ ap₂ (λ s c. from (k + 1) (parts J.kerf (node_of (get_or kinds k 0) (get_or operands k 0)) r ++ rs) s c) (sym p.1) (sym (placed.counts (ap verdict_of e)))
 
 -- a node checked by the rules of a job that was read is checked by the job
-pub by_rules : (j : JobRecord) {q : Rules} {k kind operand : ℕ} {r : Rect} {t : Tally} {copies : List ℕ} {a : NodeAnswer} {after : List ℕ} → q ≡ rules_of j
+pub by_rules : (j : JobRecord) {q : Rules} {k kind operand : ℕ} {r : Rect} {t : Tally} {copies : List ℕ} {a : Answer Tally} {after : List ℕ} → q ≡ rules_of j
     → Placed (job_from j.length j.width q.kerf q.turning j.full_demand q.count j.lengths j.widths j.prices j.demands j.grains) k kind operand r t copies a after → Placed (job_of j) k kind operand r t copies a after
 by_rules j {q} {k} {kind} {operand} {r} {t} {copies} {a} {after} e p =
     subst (λ (x : Rules). Placed (job_from j.length j.width x.kerf x.turning j.full_demand x.count j.lengths j.widths j.prices j.demands j.grains) k kind operand r t copies a after) e p
@@ -65,15 +65,10 @@ fits_inside J copies r (Cut d x) h = omega (arith, h.1)
 
 -- after the last node: 17 where a rectangle waits, and else the tree passes
 module _ (J : Job) (k : ℕ) (lengths widths : List ℕ) (s : Report) where
-  pub missing : (n : ℕ) → 0 < n → tree_stopped (Refused (NodeMissing k)) ≡ tree_walk J k [] (waiting lengths widths n) s
+  pub at_end : (n : ℕ) → tree_walk J k [] (waiting lengths widths n) s ≡ proceed (refuse_when (ltb 0 n) (NodeMissing k)) (tree_passed k s)
   unfolding tree_walk waiting
-  missing zero h = absurd (omega arith)
-  missing (suc n) h = refl
-
-  pub filled : (n : ℕ) → n ≤ 0 → tree_passed k s ≡ tree_walk J k [] (waiting lengths widths n) s
-  unfolding tree_walk waiting
-  filled zero h = refl
-  filled (suc n) h = absurd (omega arith)
+  at_end zero = refl
+  at_end (suc n) = rw (lt-ltb 0 (suc n) (omega arith)) refl
 
 -- no rectangle waits
 pub none_wait : (lengths widths : List ℕ) (n : ℕ) → n < 1 → waiting lengths widths n ≡ []
@@ -141,11 +136,11 @@ begins J kinds operands first lengths widths t h held e = rw e
     })
 
 module _ {J : Job} {kinds operands : List ℕ} {first : ℕ} {copies lengths widths : List ℕ} {n : ℕ} {t : Tally} {k : ℕ} (given : Walking J kinds operands first copies lengths widths n t k) (same : length kinds ≡ length operands) where
-  abbrev answer : TreeAnswer
+  abbrev answer : Answer TreeWalk
   answer = tree_walk J first (drop first (nodes_in kinds operands)) (J.plate ∷ []) empty_report
 
   -- after the last node
-  pub ends : length kinds ≤ k → (a : TreeAnswer) → a ≡ tree_walk J (length kinds) [] (waiting lengths widths n) (plan_report t copies) → a ≡ answer
+  pub ends : length kinds ≤ k → (a : Answer TreeWalk) → a ≡ tree_walk J (length kinds) [] (waiting lengths widths n) (plan_report t copies) → a ≡ answer
   ends h a e = let m : length kinds ≡ k = omega (arith, given.nodes) in
       let l : length (nodes_in kinds operands) ≤ k = omega (arith, nodes_length kinds operands same) in
       e ∙ ap (λ i. tree_walk J i [] (waiting lengths widths n) (plan_report t copies)) m
@@ -157,7 +152,7 @@ module _ {J : Job} {kinds operands : List ℕ} {first : ℕ} {copies lengths wid
     filled_all h = sym (given.walks ∙ ap (λ rs. from J kinds operands same k rs t copies) (none_wait lengths widths n h) ∙ over J kinds operands same k more t copies)
 
     module _ (some : 1 ≤ n) {room : Sides} (next : room ≡ sides_of (get_or lengths (n - 1) 0, get_or widths (n - 1) 0)) {e : NodeEntry} (here : e ≡ entry_at kinds operands k)
-        {a : NodeAnswer} {after : List ℕ} (placed : Placed J e.at e.kind e.operand (rect_of room) t copies a after) where
+        {a : Answer Tally} {after : List ℕ} (placed : Placed J e.at e.kind e.operand (rect_of room) t copies a after) where
       -- node k, at the next rectangle
       at_k : Placed J k (get_or kinds k 0) (get_or operands k 0) (rect_of room) t copies a after
       at_k = subst (λ (x : NodeEntry). Placed J x.at x.kind x.operand (rect_of room) t copies a after) here placed
@@ -166,30 +161,30 @@ module _ {J : Job} {kinds operands : List ℕ} {first : ℕ} {copies lengths wid
       opened = given.walks ∙ ap (λ rs. from J kinds operands same k rs t copies) (next_waits lengths widths n some ∙ sym (ap (λ r. rect_of r ∷ waiting lengths widths (n - 1)) next))
 
       -- it is refused
-      pub halts : {x : Refusal} → a.verdict ≡ Refused x → tree_stopped a.verdict ≡ answer
-      halts v = sym (opened ∙ stops J kinds operands same k more (waiting lengths widths (n - 1)) at_k v)
+      pub halts : {x : Refusal} → a ≡ Err x → (b : Answer TreeWalk) → IsErrAnd b (λ y. y ≡ x) → b ≡ answer
+      halts v b p = handed b p ∙ sym (opened ∙ stops J kinds operands same k more (waiting lengths widths (n - 1)) at_k v)
 
       -- it passes
-      module _ (v : a.verdict ≡ Passed) where
+      module _ {u : Tally} (v : a ≡ Ok u) where
         -- its parts can be put in the list
         pub opens : length kinds ≤ 4095 → {node : Node} → node ≡ node_of e.kind e.operand → Opens J.kerf node (rect_of room) lengths widths n
         opens most {node} m =
             record {
               some = some;
               place = omega (arith, given.few);
-              inside = rw m (fits_inside J copies (rect_of room) (node_of e.kind e.operand) (node_passed J copies (rect_of room) e.at e.kind e.operand (sym placed.verdict ∙ v)).1);
+              inside = rw m (fits_inside J copies (rect_of room) (node_of e.kind e.operand) (node_passed J copies (rect_of room) e.at e.kind e.operand (value_answered _ _ (sym placed.answer ∙ v)).0).1);
               held = given.held;
             }
 
         -- and the walk goes on
         pub goes_on : {node : Node} → node ≡ node_of e.kind e.operand → (lengths' widths' : List ℕ) (n' : ℕ)
-            → (waiting lengths' widths' n' ≡ parts J.kerf node (rect_of room) ++ waiting lengths widths (n - 1)) × (n' ≤ n + 1) × Held lengths' widths' → Walking J kinds operands first after lengths' widths' n' a.tally (k + 1)
+            → (waiting lengths' widths' n' ≡ parts J.kerf node (rect_of room) ++ waiting lengths widths (n - 1)) × (n' ≤ n + 1) × Held lengths' widths' → Walking J kinds operands first after lengths' widths' n' u (k + 1)
         goes_on {node} m lengths' widths' n' w =
             record {
               nodes = omega arith;
               few = omega (arith, given.few, w.1);
               held = w.2;
-              sized = placed.sized k given.sized;
+              sized = placed.sized u v k given.sized;
               walks = opened ∙ steps J kinds operands same k more (waiting lengths widths (n - 1)) at_k v
-                  ∙ sym (ap (λ rs. from J kinds operands same (k + 1) rs a.tally after) (w.0 ∙ ap (λ x. parts J.kerf x (rect_of room) ++ waiting lengths widths (n - 1)) (m ∙ ap (λ (x : NodeEntry). node_of x.kind x.operand) here)));
+                  ∙ sym (ap (λ rs. from J kinds operands same (k + 1) rs u after) (w.0 ∙ ap (λ x. parts J.kerf x (rect_of room) ++ waiting lengths widths (n - 1)) (m ∙ ap (λ (x : NodeEntry). node_of x.kind x.operand) here)));
             }

@@ -1,21 +1,17 @@
 -- A plan's check in the scope's words: the walk over the nodes in preorder, then the idle cuts, and what the whole plan answers.
 -- docs/SCOPE.md: Plans; The report.
-use Rattle.std.specs.Prelude.{List, [], ◌∷◌, ◌++◌, ℕ, ◌+◌}
+use Rattle.std.specs.Prelude.{List, [], ◌∷◌, ◌++◌, ℕ, ◌+◌, Ok, Err}
 use Rattle.promises.specs.declared.Node.{Node}
 use Rattle.cutting.specs.Tree.{Rect}
 use Rattle.cutting.specs.Job.{Job}
-use Rattle.promises.specs.declared.Refusal.{Refusal}
 use Rattle.promises.specs.declared.Refusal.TheVariants.{NodeMissing, NodeLeft}
-use Rattle.promises.specs.declared.Checked.{Checked}
-use Rattle.promises.specs.declared.Checked.TheVariants.{Passed, Refused}
-use Rattle.refusal.specs.Refusals.{by_check, next, first_refusal}
+use Rattle.refusal.specs.Refusals.{Answer, Checked, by_check, answer_by, verdict_of, next, first_refusal}
 use Rattle.node.specs.declared.Tally.{Tally}
 use Rattle.node.specs.Nodes.{tallied, copied}
 pub use Rattle.node.specs.Nodes.{node_of, node_checks, parts}
 use Rattle.idle.specs.Idle.{idle_checks}
 use Rattle.promises.specs.declared.Report.{Report}
-use Rattle.promises.specs.declared.PlanAnswer.{PlanAnswer}
-use Rattle.plan.specs.declared.TreeAnswer.{TreeAnswer}
+use Rattle.plan.specs.declared.TreeWalk.{TreeWalk}
 pub use Rattle.promises.specs.Check.{left_check, plan_checks}
 pub use Rattle.promises.specs.Plan.{empty_report, nodes_in}
 
@@ -31,59 +27,42 @@ plan_report t copies = record { profit = t.profit; copies = copies; pieces = t.p
 abbrev pub report_after : Job → Node → Rect → Report → Report
 report_after J n r s = plan_report (tallied J n r (sums_of s)) (copied n s.copies)
 
--- a passed plan with its report
-abbrev pub passed : Report → PlanAnswer
-passed s = record { verdict = Passed; report = s }
-
--- an answer with an empty report
-abbrev pub unreported : Checked → PlanAnswer
-unreported v = record { verdict = v; report = empty_report }
-
--- a refused plan reports zeros
-abbrev pub refused : Refusal → PlanAnswer
-refused r = unreported (Refused r)
-
 -- a check, and where it passes what follows
-abbrev pub proceed : Checked → PlanAnswer → PlanAnswer
-proceed Passed a = a
-proceed (Refused r) a = refused r
+abbrev pub proceed : {A : Type 0} → Checked → Answer A → Answer A
+proceed v a = by_check v a Err
 
 -- the walk from node k on, over the nodes left and the rectangles still to be filled, the next one first: 17 gives the node count, for
 -- all k nodes are read, and 18 the first node left over
-unfoldable pub walk : Job → ℕ → List (ℕ × ℕ) → List Rect → Report → PlanAnswer
-walk J k [] [] s = passed s
-walk J k (n ∷ ns) [] s = refused (NodeLeft k)
-walk J k [] (r ∷ rs) s = refused (NodeMissing k)
+unfoldable pub walk : Job → ℕ → List (ℕ × ℕ) → List Rect → Report → Answer Report
+walk J k [] [] s = Ok s
+walk J k (n ∷ ns) [] s = Err (NodeLeft k)
+walk J k [] (r ∷ rs) s = Err (NodeMissing k)
 walk J k (n ∷ ns) (r ∷ rs) s =
     proceed (first_refusal (node_checks J s.copies r k n.0 n.1))
     (walk J (k + 1) ns (parts J.kerf (node_of n.0 n.1) r ++ rs) (report_after J (node_of n.0 n.1) r s))
 
 -- a tree walked to its end, before node k
-abbrev pub tree_passed : ℕ → Report → TreeAnswer
-tree_passed k s = record { verdict = Passed; report = s; past = k }
-
--- a walk over a tree that stops
-abbrev pub tree_stopped : Checked → TreeAnswer
-tree_stopped v = record { verdict = v; report = empty_report; past = 0 }
+abbrev pub tree_passed : ℕ → Report → Answer TreeWalk
+tree_passed k s = Ok (record { report = s; past = k })
 
 -- the walk over one tree from node k on, the same but for its end: it passes where its last rectangle is filled, whatever nodes follow
-unfoldable pub tree_walk : Job → ℕ → List (ℕ × ℕ) → List Rect → Report → TreeAnswer
+unfoldable pub tree_walk : Job → ℕ → List (ℕ × ℕ) → List Rect → Report → Answer TreeWalk
 tree_walk J k [] [] s = tree_passed k s
 tree_walk J k (n ∷ ns) [] s = tree_passed k s
-tree_walk J k [] (r ∷ rs) s = tree_stopped (Refused (NodeMissing k))
+tree_walk J k [] (r ∷ rs) s = Err (NodeMissing k)
 tree_walk J k (n ∷ ns) (r ∷ rs) s =
-    by_check (first_refusal (node_checks J s.copies r k n.0 n.1))
+    proceed (first_refusal (node_checks J s.copies r k n.0 n.1))
     (tree_walk J (k + 1) ns (parts J.kerf (node_of n.0 n.1) r ++ rs) (report_after J (node_of n.0 n.1) r s))
-    (λ x. tree_stopped (Refused x))
 
 -- the walk over a plan's only tree, of n nodes, as that of the plan (walk_ends of proofs/Ends)
-abbrev pub only_tree : ℕ → TreeAnswer → PlanAnswer
-only_tree n a = proceed (next a.verdict (first_refusal (left_check n a.past ∷ []))) (passed a.report)
+abbrev pub only_tree : ℕ → Answer TreeWalk → Answer Report
+only_tree n (Ok t) = answer_by (first_refusal (left_check n t.past ∷ [])) t.report
+only_tree n (Err r) = Err r
 
 -- what 10 to 18 and 36 answer for a plan's arrays: checks 10 and 11, then the walk from the plate
-unfoldable pub walk_answer : Job → List ℕ → List ℕ → PlanAnswer
+unfoldable pub walk_answer : Job → List ℕ → List ℕ → Answer Report
 walk_answer J kinds operands = proceed (first_refusal (plan_checks kinds operands)) (walk J 0 (nodes_in kinds operands) (J.plate ∷ []) empty_report)
 
 -- what a plan's arrays answer: 10 to 18 and 36, then 26
-unfoldable pub plan_answer : Job → List ℕ → List ℕ → PlanAnswer
-plan_answer J kinds operands = proceed (next (walk_answer J kinds operands).verdict (first_refusal (idle_checks 0 kinds))) (walk_answer J kinds operands)
+unfoldable pub plan_answer : Job → List ℕ → List ℕ → Answer Report
+plan_answer J kinds operands = proceed (next (verdict_of (walk_answer J kinds operands)) (first_refusal (idle_checks 0 kinds))) (walk_answer J kinds operands)

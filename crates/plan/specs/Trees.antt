@@ -1,17 +1,14 @@
 -- The tree that a plan's arrays draw, and what a passed plan is: the preorder of a guillotine tree, which the report describes.
 -- docs/SCOPE.md: Plans; The report.
 use Rattle.std.specs.Prelude.{◌≡◌, List, ℕ, ◌+◌, ◌*◌}
+use Rattle.std.specs.Result.{ForOk}
 use Rattle.cutting.specs.Tree.{Tree, IdleFree}
 use Rattle.cutting.specs.Pieces.{Piece}
 use Rattle.cutting.specs.Job.{Job, profit, copies_of, pieces_area_of, waste_area_of, trim_area_of, sawdust_area_of}
-use Rattle.refusal.specs.Refusals.{first_refusal}
-use Rattle.promises.specs.declared.Refusal.{Refusal}
-use Rattle.promises.specs.declared.Checked.TheVariants.{Passed, Refused}
+use Rattle.refusal.specs.Refusals.{Answer, passed, verdict_of, first_refusal}
 use Rattle.job.specs.Block.{entries}
 use Rattle.idle.specs.Idle.{tree_checks}
 use Rattle.promises.specs.declared.Report.{Report}
-use Rattle.promises.specs.declared.PlanAnswer.{PlanAnswer}
-use Rattle.plan.specs.Plan.{empty_report}
 pub use Rattle.promises.specs.Plan.{with_node, first_tree, tree_in, DrawnAs, PlanOf}
 unfoldable pub use Rattle.promises.specs.Plan.{trees_in}
 
@@ -31,13 +28,11 @@ pub record Reports (J : Job) (t : Tree Piece) (r : Report) : Type 0 where
   pub own : r ≡ tree_report J t
   pub areas : r.pieces + r.waste + r.trim + r.sawdust ≡ J.plate.0 * J.plate.1
 
--- where what stands before the plan's checks holds, an answer passes exactly for the plan of a tree; it then reports that tree, and a
--- refusal reports zeros. Arrays drawn as a tree are refused for its first idle cut in preorder alone; without one, `old` is the answer,
--- which is that of the checks before 26
-pub record ChecksPlan (Before : Type 0) (J : Job) (kinds operands : List ℕ) (old a : PlanAnswer) : Type 0 where
-  pub passes : Before → (t : Tree Piece) → PlanOf J t kinds operands → a.verdict ≡ Passed
-  pub before : a.verdict ≡ Passed → Before
-  pub tree : a.verdict ≡ Passed → (t : Tree Piece) × PlanOf J t kinds operands × Reports J t a.report
-  pub zeros : (r : Refusal) → a.verdict ≡ Refused r → a.report ≡ empty_report
-  pub idle : Before → (t : Tree Piece) → DrawnAs J t kinds operands → a.verdict ≡ first_refusal (tree_checks 0 t)
+-- where what stands before the plan's checks holds, an answer passes exactly for the plan of a tree; it then reports that tree. Arrays drawn as
+-- a tree are refused for its first idle cut in preorder alone; without one, `old` is the answer, which is that of the checks before 26
+pub record ChecksPlan (Before : Type 0) (J : Job) (kinds operands : List ℕ) (old a : Answer Report) : Type 0 where
+  pub passes : Before → (t : Tree Piece) → PlanOf J t kinds operands → verdict_of a ≡ passed
+  pub before : verdict_of a ≡ passed → Before
+  pub tree : ForOk a (λ r. (t : Tree Piece) × PlanOf J t kinds operands × Reports J t r)
+  pub idle : Before → (t : Tree Piece) → DrawnAs J t kinds operands → verdict_of a ≡ first_refusal (tree_checks 0 t)
   pub old_table : ((t : Tree Piece) → DrawnAs J t kinds operands → IdleFree t) → a ≡ old

@@ -9,7 +9,7 @@ ghost use Rattle.cutting.specs.Job.{Job, InRange};
 ghost use Rattle.refusal.specs.Refusals.{first_refusal};
 ghost use Rattle.job.specs.Block.{job_of};
 ghost use Rattle.job.specs.Weights.{block_job};
-ghost use Rattle.plan.specs.Plan.{parts, plan_report, empty_report, unreported, nodes_in, tree_passed, tree_stopped, tree_walk, left_check, walk, plan_checks, walk_answer, plan_answer};
+ghost use Rattle.plan.specs.Plan.{parts, plan_report, empty_report, nodes_in, tree_walk, left_check, walk, plan_checks, walk_answer, plan_answer};
 ghost use Rattle.plan.specs.Walk.{waiting, no_sums, rules_of, entry_at, Held, Opens, Walkable};
 ghost use Rattle.plan.specs.Trees.{ChecksPlan};
 ghost use Rattle.plan.specs.Calls.{arrays_answer, arrays_before_idle, plan_count, plan_kinds, plan_operands, plan_block_answer, block_answer, block_before_idle, JobPasses, BlockPasses, plan_outcome, arrays_said, block_said};
@@ -18,32 +18,14 @@ use cutting::{Sides, first_part, second_part};
 use idle::idle_cut;
 use job::{read_job, read_u16};
 use node::{NodeEntry, Rules, Tally, check_node, decode};
-use promises::{Checked, Choices, JobRecord, Node, PlanAnswer, Refusal, Report};
+use promises::{Choices, JobRecord, Node, Refusal, Report};
+use refusal::refuse_if;
 
-// What the walk over one tree answers: its report, and the number of the node after its last; zeros where it is refused.
+// What the walk over one tree gives: its report, and the number of the node after its last.
 #[derive(Clone, Copy, Drop)]
-pub struct TreeAnswer {
-    pub verdict: Checked,
+pub struct TreeWalk {
     pub report: Report,
     pub past: usize,
-}
-
-// An answer with an empty report.
-fn without_report(verdict: Checked) -> PlanAnswer
-    ensures { result ≡ unreported verdict }
-{
-    let none = [0u16; 64];
-    PlanAnswer {
-        verdict: verdict,
-        report: Report {
-            profit: 0,
-            copies: none,
-            pieces: 0,
-            waste: 0,
-            trim: 0,
-            sawdust: 0,
-        },
-    }
 }
 
 // The sums before any node.
@@ -108,9 +90,7 @@ fn leave_parts(
 {
     let top = n - 1;
     match node {
-        Node::Waste => top,
-        Node::Piece(_) => top,
-        Node::Turned(_) => top,
+        Node::Waste | Node::Piece(_) | Node::Turned(_) => top,
         Node::Cut(d, x) => {
             let first = first_part(d, x, room);
             let second = second_part(d, x, kerf, room);
@@ -123,28 +103,14 @@ fn leave_parts(
     }
 }
 
-// A walk over a tree that stops.
-pub fn stop_tree(verdict: Checked) -> TreeAnswer
-    ensures { result ≡ tree_stopped verdict }
-{
-    let none = without_report(verdict);
-    let report = none.report;
-    TreeAnswer {
-        verdict: verdict,
-        report: report,
-        past: 0,
-    }
-}
-
 // A tree walked to its end, before node k.
-fn end_tree(k: usize, t: Tally, copies: [u16; 64]) -> TreeAnswer
-    ensures { result ≡ tree_passed k (plan_report t copies) }
+fn end_tree(k: usize, t: Tally, copies: [u16; 64]) -> TreeWalk
+    ensures { result ≡ record { report = plan_report t copies; past = k } }
 {
-    TreeAnswer {
-        verdict: Checked::Passed,
+    TreeWalk {
         report: Report {
             profit: t.profit,
-            copies: copies,
+            copies,
             pieces: t.pieces,
             waste: t.waste,
             trim: t.trim,
@@ -155,14 +121,12 @@ fn end_tree(k: usize, t: Tally, copies: [u16; 64]) -> TreeAnswer
 }
 
 // After the last node: a rectangle that waits has no node, and else the tree passes.
-fn finish(n: usize, k: usize, t: Tally, copies: [u16; 64]) -> TreeAnswer
+fn finish(n: usize, k: usize, t: Tally, copies: [u16; 64]) -> Result<TreeWalk, Refusal>
     requires { k ≤ most_nodes }
     ensures { (J : Job) (lengths widths : List ℕ) → result ≡ tree_walk J k [] (waiting lengths widths n) (plan_report t copies) }
 {
-    if 0 < n {
-        return stop_tree(Checked::Refused(Refusal::NodeMissing(k as u16)));
-    }
-    end_tree(k, t, copies)
+    refuse_if(0 < n, Refusal::NodeMissing(k as u16))?;
+    Ok(end_tree(k, t, copies))
 }
 
 // The walk over one tree, from node `first` and the plate on: refusals 12 to 17 and 36. `waiting_lengths` and `waiting_widths` hold
@@ -174,15 +138,10 @@ pub fn walk_tree(
     first: usize,
     waiting_lengths: &mut [u16; 4096],
     waiting_widths: &mut [u16; 4096],
-) -> TreeAnswer
+) -> Result<TreeWalk, Refusal>
     requires { Walkable kinds.now operands.now × (job.count ≤ most_kinds) × (first ≤ length kinds.now) × Held waiting_lengths.old waiting_widths.old }
     ensures { (result ≡ tree_walk (job_of job) first (drop first (nodes_in kinds.now operands.now)) ((job_of job).plate ∷ []) empty_report) × Held waiting_lengths.new waiting_widths.new }
 {
-    let kind_lengths = job.lengths;
-    let kind_widths = job.widths;
-    let prices = job.prices;
-    let demands = job.demands;
-    let grains = job.grains;
     let rules = rules_of(job);
     let mut copies = [0u16; 64];
     waiting_lengths[0] = job.length;
@@ -191,27 +150,22 @@ pub fn walk_tree(
     let mut t = no_sums();
     for k in first..kinds.len() {
         if n < 1 {
-            return end_tree(k, t, copies);
+            return Ok(end_tree(k, t, copies));
         }
         let e = entry(kinds, operands, k);
         let room = next_room(waiting_lengths, waiting_widths, n);
-        let a = check_node(
-            &kind_lengths,
-            &kind_widths,
-            &prices,
-            &demands,
-            &grains,
+        t = check_node(
+            &job.lengths,
+            &job.widths,
+            &job.prices,
+            &job.demands,
+            &job.grains,
             &mut copies,
             rules,
             e,
             room,
             t,
-        );
-        let verdict = a.verdict;
-        let Checked::Passed = verdict else {
-            return stop_tree(verdict);
-        };
-        t = a.tally;
+        )?;
         let node = decode(e.kind, e.operand);
         n = leave_parts(node, job.kerf, room, waiting_lengths, waiting_widths, n);
     }
@@ -219,18 +173,18 @@ pub fn walk_tree(
 }
 
 // Refusal 18, of n nodes, after the walks have ended before node k.
-pub fn check_left(n: usize, k: usize) -> Checked
+pub fn check_left(n: usize, k: usize) -> Result<(), Refusal>
     requires { n ≤ most_nodes }
     ensures { result ≡ first_refusal (left_check n k ∷ []) }
 {
     if k < n {
-        return Checked::Refused(Refusal::NodeLeft(k as u16));
+        return Err(Refusal::NodeLeft(k as u16));
     }
-    Checked::Passed
+    Ok(())
 }
 
 // The walk over a plan's nodes from the plate on: refusals 12 to 18 and 36.
-fn walk_nodes(job: JobRecord, kinds: &[u8], operands: &[u16]) -> PlanAnswer
+fn walk_nodes(job: JobRecord, kinds: &[u8], operands: &[u16]) -> Result<Report, Refusal>
     requires { Walkable kinds.now operands.now × (job.count ≤ most_kinds) }
     ensures { result ≡ walk (job_of job) 0 (nodes_in kinds.now operands.now) ((job_of job).plate ∷ []) empty_report }
 {
@@ -243,80 +197,51 @@ fn walk_nodes(job: JobRecord, kinds: &[u8], operands: &[u16]) -> PlanAnswer
         0,
         &mut waiting_lengths,
         &mut waiting_widths,
-    );
-    let walked = tree.verdict;
-    let Checked::Passed = walked else {
-        return without_report(walked);
-    };
-    let left = check_left(kinds.len(), tree.past);
-    let Checked::Passed = left else {
-        return without_report(left);
-    };
-    let report = tree.report;
-    PlanAnswer {
-        verdict: Checked::Passed,
-        report: report,
-    }
+    )?;
+    check_left(kinds.len(), tree.past)?;
+    Ok(tree.report)
 }
 
 // Refusals 10 and 11: the plan as a whole.
-pub fn check_whole(kinds: &[u8], operands: &[u16]) -> Checked
+pub fn check_whole(kinds: &[u8], operands: &[u16]) -> Result<(), Refusal>
     ensures { result ≡ first_refusal (plan_checks kinds.now operands.now) }
 {
     let count = kinds.len();
-    if count != operands.len() {
-        return Checked::Refused(Refusal::PlanLength);
-    }
-    if count < 1 {
-        return Checked::Refused(Refusal::NodeCount);
-    }
-    if 4095 < count {
-        return Checked::Refused(Refusal::NodeCount);
-    }
-    Checked::Passed
+    refuse_if(count != operands.len(), Refusal::PlanLength)?;
+    refuse_if(count < 1 || 4095 < count, Refusal::NodeCount)
 }
 
 // A plan's arrays checked for a job that was read: refusals 10 to 18 and 36.
-fn check_walk(job: JobRecord, kinds: &[u8], operands: &[u16]) -> PlanAnswer
+fn check_walk(job: JobRecord, kinds: &[u8], operands: &[u16]) -> Result<Report, Refusal>
     requires { InRange (job_of job) }
     ensures { result ≡ walk_answer (job_of job) kinds.now operands.now }
 {
-    let whole = check_whole(kinds, operands);
-    let Checked::Passed = whole else {
-        return without_report(whole);
-    };
+    check_whole(kinds, operands)?;
     walk_nodes(job, kinds, operands)
 }
 
 // A plan's arrays checked for a job that was read: refusals 10 to 18 and 36, then 26.
-pub fn check_nodes(job: JobRecord, kinds: &[u8], operands: &[u16]) -> PlanAnswer
+pub fn check_nodes(job: JobRecord, kinds: &[u8], operands: &[u16]) -> Result<Report, Refusal>
     requires { InRange (job_of job) }
     ensures { result ≡ plan_answer (job_of job) kinds.now operands.now }
 {
-    let answer = check_walk(job, kinds, operands);
-    let walked = answer.verdict;
-    let Checked::Passed = walked else {
-        return without_report(walked);
-    };
-    let idle = idle_cut(kinds, 0);
-    let Checked::Passed = idle else {
-        return without_report(idle);
-    };
-    answer
+    let report = check_walk(job, kinds, operands)?;
+    idle_cut(kinds, 0)?;
+    Ok(report)
 }
 
 // A plan's arrays checked for a job block: refusals 1 to 7, 27 and 35, then 10 to 18, 36 and 26.
-pub fn check_plan(block: &[u8], choices: Choices, kinds: &[u8], operands: &[u16]) -> PlanAnswer
+pub fn check_plan(
+    block: &[u8],
+    choices: Choices,
+    kinds: &[u8],
+    operands: &[u16],
+) -> Result<Report, Refusal>
     ensures answers { result ≡ arrays_answer block.now choices kinds.now operands.now }
     ensures outcome { plan_outcome result ≡ arrays_said block.now choices kinds.now operands.now }
     ensures trees { ChecksPlan (JobPasses block.now choices) (block_job block.now choices) kinds.now operands.now (arrays_before_idle block.now choices kinds.now operands.now) result }
 {
-    let read = read_job(block, choices);
-    let verdict = read.verdict;
-    let Checked::Passed = verdict else {
-        return without_report(verdict);
-    };
-    let job = read.job;
+    let job = read_job(block, choices)?;
     check_nodes(job, kinds, operands)
 }
 
@@ -331,37 +256,26 @@ fn read_operands(plan: &[u8], count: usize, operands: &mut [u16; 4095])
 }
 
 // A plan block checked for a job that was read: refusals 10 to 18, 36 and 26.
-fn check_block(job: JobRecord, plan: &[u8]) -> PlanAnswer
+fn check_block(job: JobRecord, plan: &[u8]) -> Result<Report, Refusal>
     requires { InRange (job_of job) }
     ensures { result ≡ plan_block_answer (job_of job) plan.now }
 {
-    if plan.len() < 2 {
-        return without_report(Checked::Refused(Refusal::PlanLength));
-    }
+    refuse_if(plan.len() < 2, Refusal::PlanLength)?;
     let count = read_u16(plan, 0) as usize;
     let end = 2 + count;
-    if plan.len() != end + 2 * count {
-        return without_report(Checked::Refused(Refusal::PlanLength));
-    }
-    if 4095 < count {
-        return without_report(Checked::Refused(Refusal::NodeCount));
-    }
+    refuse_if(plan.len() != end + 2 * count, Refusal::PlanLength)?;
+    refuse_if(4095 < count, Refusal::NodeCount)?;
     let mut operands = [0u16; 4095];
     read_operands(plan, count, &mut operands);
     check_nodes(job, &plan[2..end], &operands[..count])
 }
 
 // A plan block checked for a job block: refusals 1 to 7, 27 and 35, then 10 to 18, 36 and 26.
-pub fn check_plan_block(block: &[u8], choices: Choices, plan: &[u8]) -> PlanAnswer
+pub fn check_plan_block(block: &[u8], choices: Choices, plan: &[u8]) -> Result<Report, Refusal>
     ensures answers { result ≡ block_answer block.now choices plan.now }
     ensures outcome { plan_outcome result ≡ block_said block.now choices plan.now }
     ensures trees { ChecksPlan (JobPasses block.now choices × BlockPasses plan.now) (block_job block.now choices) (plan_kinds plan.now) (plan_operands plan.now) (block_before_idle block.now choices plan.now) result }
 {
-    let read = read_job(block, choices);
-    let verdict = read.verdict;
-    let Checked::Passed = verdict else {
-        return without_report(verdict);
-    };
-    let job = read.job;
+    let job = read_job(block, choices)?;
     check_block(job, plan)
 }

@@ -1,8 +1,8 @@
 -- What the instance of the bound call says of answer and memory gives back the inner promise whole: nothing is lost. And what a staged
 -- bound is, of every job in range.
-use Rattle.planner.proofs.Prelude.{◌≡◌, refl, sym, ◌∙◌, ap, ap₂, subst, List, ◌++◌, ℕ, ◌≤◌, arith, get_or, Direction, Length, Width, Job, InRange, SolidKinds, widened, at_full_demand, capacity, ordered, members, pieces, by_kind, figure_of, block, staged_bound, capacity_less, staged_finer, stages_finer, range_solid, recursion, figures_most, floor_figures, block_figure, staged_under_most, staged_under_earned, staged_most, staged_holds, staged_ceiling, staged_more, staged_less, Check, by_check, next, first_refusal, Checked, Passed, Refused, Choices, JobRecord, job_of, block_job, weight_in, weight_checks, kerf_none_read, accepted_in_range, position, words_needed, Figures, BoundReport, BoundAnswer, Memory, accept_verdict, block_report, bound_held, exact_by, StagedHolds, CertifyStagedPromises, Certificate, one_weight, within_stages, Arrays, storage_checks, Leaves, CheckPromises, BlockPromises, BoundPromises, CertifyPromises, none, some, PlanAnswer, ChecksPlan, arrays_answer, arrays_before_idle, arrays_said, block_answer, block_before_idle, block_said, plan_outcome, plan_kinds, plan_operands, JobPasses, BlockPasses, arrays_met, block_met, said_by, plans_judged, compares}
+use Rattle.planner.proofs.Prelude.{◌≡◌, refl, sym, ◌∙◌, ap, ap₂, subst, List, ◌++◌, ℕ, ◌≤◌, arith, get_or, Direction, Length, Width, Job, InRange, SolidKinds, widened, at_full_demand, capacity, ordered, members, pieces, by_kind, figure_of, block, staged_bound, capacity_less, staged_finer, stages_finer, range_solid, recursion, figures_most, floor_figures, block_figure, staged_under_most, staged_under_earned, staged_most, staged_holds, staged_ceiling, staged_more, staged_less, Check, by_check, next, first_refusal, Choices, JobRecord, job_of, block_job, weight_in, weight_checks, kerf_none_read, accepted_in_range, position, words_needed, Figures, BoundReport, Memory, accept_verdict, block_report, bound_held, exact_by, StagedHolds, CertifyStagedPromises, Certificate, one_weight, within_stages, Arrays, storage_checks, Leaves, CheckPromises, BlockPromises, BoundPromises, CertifyPromises, none, some, ChecksPlan, arrays_answer, arrays_before_idle, arrays_said, block_answer, block_before_idle, block_said, plan_outcome, plan_kinds, plan_operands, JobPasses, BlockPasses, arrays_met, block_met, said_by, plans_judged, compares, Ok, Err, passed, Checked, Answer, Report, outcome_of}
+use Rattle.certificate.proofs.Comparison.{certificate_says}
 use Rattle.refusal.specs.Refusals as old
-use Rattle.promises.specs.declared.BoundAnswer.TheVariants as bound_answer
 use Rattle.bound.specs.Bound as bound
 use Rattle.promises.specs.Systems as new
 use Rattle.certificate.specs.Certificate as certify
@@ -45,22 +45,22 @@ staged_held J weight n h = record {
   full_demand = staged_full J (range_solid J h) weight n;
 }
 
-pub staged_certified : (s : List ℕ) (choices : Choices) (ws : List ℕ) (plan : Arrays) (m n : Memory) (r : Certificate) (k : ℕ) → CertifyStagedPromises s choices ws k plan.0 plan.1 m n r
+pub staged_certified : (s : List ℕ) (choices : Choices) (ws : List ℕ) (plan : Arrays) (m n : Memory) (r : Answer Certificate) (k : ℕ) → CertifyStagedPromises s choices ws k plan.0 plan.1 m n r
     → CertifyPromises (some k) (within_stages (weight_in ws) k) s choices ws plan m n r
 staged_certified s choices ws plan m n r k = staged_certify_new s choices ws plan m n r k (λ a. staged_held (block_job s choices) (weight_in ws) k (accepted_in_range s choices ws a))
 
 -- lent memory, the other way
 module _ (before : Checked) (J : Job) (weight : ℕ → ℕ) (m n : Memory) where
   after_by : (v : Checked) (A B C : Type 0) → (A → B) → by_check v A (λ r. C) → by_check v B (λ r. C)
-  after_by Passed A B C f a = f a
-  after_by (Refused r) A B C f c = c
+  after_by (Ok _) A B C f a = f a
+  after_by (Err r) A B C f c = c
 
   figures_back : new.Figures (widened J) (one_weight weight J) n.table → Figures (widened J) weight (capacity J weight) n.table
   unfolding figure_of
   figures_back f a b c ha hb hc = ap (λ i. get_or n.table i 0) (omega arith) ∙ (f a b c ha hb hc ∙ figure_is (widened J) (by_kind weight) (position (widened J) Length a) (position (widened J) Width b) c)
 
   stored : first_refusal (bound.memory_checks (widened J) (capacity J weight) m) ≡ first_refusal (storage_checks J (one_weight weight J) m)
-  stored = stored_is Passed J (one_weight weight J) m m (words_needed (widened J) (capacity J weight)) (one_words J weight)
+  stored = stored_is passed J (one_weight weight J) m m (words_needed (widened J) (capacity J weight)) (one_words J weight)
 
   pub leaves_back : Leaves before J (one_weight weight J) m n → bound.Leaves before (widened J) weight (capacity J weight) m n
   leaves_back l = record {
@@ -70,7 +70,7 @@ module _ (before : Checked) (J : Job) (weight : ℕ → ℕ) (m n : Memory) wher
   }
 
 -- the bound call, the other way
-module _ (s : List ℕ) (choices : Choices) (ws : List ℕ) (m n : Memory) (r : BoundAnswer) (p : BoundPromises s choices ws m n r) where
+module _ (s : List ℕ) (choices : Choices) (ws : List ℕ) (m n : Memory) (r : Answer BoundReport) (p : BoundPromises s choices ws m n r) where
   abbrev J : Job
   J = block_job s choices
 
@@ -81,13 +81,9 @@ module _ (s : List ℕ) (choices : Choices) (ws : List ℕ) (m n : Memory) (r : 
   memory_back = leaves_back (accept_verdict s choices ws) J weight m n p.fills.memory
 
   answers_back : r ≡ bound.bound_answer s choices ws m
-  answers_back = p.answers.answer ∙ sym (ap₂ (λ v b. by_check (next (accept_verdict s choices ws) v) (bound_answer.Answered b) bound_answer.Refused) (one_stored s choices ws m) (one_report s choices ws m))
+  answers_back = p.answers.answer ∙ sym (ap₂ (λ v b. by_check (next (accept_verdict s choices ws) v) (Ok b) Err) (one_stored s choices ws m) (one_report s choices ws m))
 
-  said : (v : Checked) (b : BoundReport) → bound.bound_outcome (bound.answer_by v b) ≡ old.outcome_by v (bound.report_values b)
-  said Passed b = refl
-  said (Refused x) b = refl
-
-  abbrev answer_from : List Check → JobRecord → BoundAnswer
+  abbrev answer_from : List Check → JobRecord → Answer BoundReport
   answer_from checks j = bound.answer_by (next (first_refusal (checks ++ weight_checks (job_of j) ws)) (first_refusal (bound.memory_checks (widened (job_of j)) (capacity (job_of j) weight) m)))
       (bound.bound_report (widened (job_of j)) weight (capacity (job_of j) weight))
 
@@ -97,7 +93,7 @@ module _ (s : List ℕ) (choices : Choices) (ws : List ℕ) (m n : Memory) (r : 
   pub bound_back : bound.BoundPromises s choices ws m n r
   bound_back = record {
     answers = answers_back;
-    outcome = ap bound.bound_outcome answers_back ∙ said (bound.bound_verdict s choices ws m) (block_report s choices ws);
+    outcome = ap (outcome_of bound.bound_values) answers_back ∙ said_by bound.bound_values (bound.bound_verdict s choices ws m) (block_report s choices ws);
     memory = memory_back;
     exact = λ b e. exact_by s choices ws m b (sym answers_back ∙ e);
     recursion = recursion (bound.wide_job s choices) weight;
@@ -109,24 +105,24 @@ module _ (s : List ℕ) (choices : Choices) (ws : List ℕ) (m n : Memory) (r : 
   }
 
 -- the check of a plan's arrays and of a plan block, the other way
-pub check_back : (s : List ℕ) (choices : Choices) (kinds operands : List ℕ) (r : PlanAnswer) → CheckPromises s choices kinds operands r
+pub check_back : (s : List ℕ) (choices : Choices) (kinds operands : List ℕ) (r : Answer Report) → CheckPromises s choices kinds operands r
     → (r ≡ arrays_answer s choices kinds operands) × ((plan_outcome r ≡ arrays_said s choices kinds operands) × ChecksPlan (JobPasses s choices) (block_job s choices) kinds operands (arrays_before_idle s choices kinds operands) r)
 check_back s choices kinds operands r p = arrays_met s choices kinds operands (p.0.answer ∙ sym (check_new s choices kinds operands (arrays_answer s choices kinds operands) refl).0.answer)
 
-pub block_back : (s : List ℕ) (choices : Choices) (b : List ℕ) (r : PlanAnswer) → BlockPromises s choices b r
+pub block_back : (s : List ℕ) (choices : Choices) (b : List ℕ) (r : Answer Report) → BlockPromises s choices b r
     → (r ≡ block_answer s choices b) × ((plan_outcome r ≡ block_said s choices b) × ChecksPlan (JobPasses s choices × BlockPasses b) (block_job s choices) (plan_kinds b) (plan_operands b) (block_before_idle s choices b) r)
 block_back s choices b r p = block_met s choices b (p.0.answer ∙ sym (block_new s choices b (block_answer s choices b) refl).0.answer)
 
 -- the certificate, the other way
-module _ (s : List ℕ) (choices : Choices) (ws : List ℕ) (plan : Arrays) (m n : Memory) (r : Certificate) (p : CertifyPromises none (one_weight (weight_in ws)) s choices ws plan m n r) where
+module _ (s : List ℕ) (choices : Choices) (ws : List ℕ) (plan : Arrays) (m n : Memory) (r : Answer Certificate) (p : CertifyPromises none (one_weight (weight_in ws)) s choices ws plan m n r) where
   abbrev K : Job
   K = block_job s choices
 
   told : certify.certificate_outcome (certify.certificate_of s choices ws plan.0 plan.1 m) ≡ certify.certificate_said s choices ws plan.0 plan.1 m
-  told = said_by (certify.certify_verdict s choices ws plan.0 plan.1 m) _ _ (λ h. (compares s choices ws plan.0 plan.1 m h).1)
+  told = certificate_says (certify.certify_verdict s choices ws plan.0 plan.1 m) _ _ (λ h. (compares s choices ws plan.0 plan.1 m h).1)
 
   certified : r ≡ certify.certificate_of s choices ws plan.0 plan.1 m
-  certified = p.answers.answer ∙ sym (certify_answers s choices ws plan m n r (certify.certificate_of s choices ws plan.0 plan.1 m) refl told).answer
+  certified = p.answers.answer ∙ sym (certify_answers s choices ws plan m n r (certify.certificate_of s choices ws plan.0 plan.1 m) refl told).0.answer
 
   pub certify_back : certify_promises.CertifyPromises s choices ws plan.0 plan.1 m n r
   certify_back = record {

@@ -1,9 +1,7 @@
 -- The bound call, the staged bound and the bound of two weights: what the inner call promises gives its instance.
-use Rattle.planner.proofs.Prelude.{◌≡◌, refl, sym, ◌∙◌, ap, ap₂, List, [], ◌∷◌, ℕ, suc, max, Direction, Length, Width, Shares, Piece, staged_bound, saw, staged, other, Job, widened, capacity, pieces, by_kind, SolidKinds, saw_proper, staged_eq, staged_none, range_solid, normal_listed, by_check, next, first_refusal, Checked, Passed, Refused, Choices, job_checks, block_job, weight_in, Accepted, append_passed, read_in_range, accepted_in_range, limit_check, position_count, words_needed, two_words, BoundReport, BoundAnswer, Memory, block_report, accept_verdict, TwoReport, TwoAnswer, figure, one_weight, two_weights, within_stages, bound_in, BlockRecursion, storage_checks, Fills, bound_form, two_form, bound_report, accepts_two, BoundPromises, StagedPromises, TwoPromises}
+use Rattle.planner.proofs.Prelude.{◌≡◌, refl, sym, ◌∙◌, ap, ap₂, List, [], ◌∷◌, ℕ, suc, max, Direction, Length, Width, Shares, Piece, staged_bound, saw, staged, other, Job, widened, capacity, pieces, by_kind, SolidKinds, saw_proper, staged_eq, staged_none, range_solid, normal_listed, by_check, next, first_refusal, Choices, job_checks, block_job, weight_in, Accepted, append_passed, read_in_range, accepted_in_range, limit_check, position_count, words_needed, two_words, BoundReport, Memory, block_report, accept_verdict, TwoReport, figure, one_weight, two_weights, within_stages, bound_in, BlockRecursion, storage_checks, Fills, bound_values, two_values, bound_report, accepts_two, BoundPromises, StagedPromises, TwoPromises, Ok, Err, passed, Checked, Answer}
 use Rattle.cutting.specs.Figure as theory
-use Rattle.promises.specs.declared.BoundAnswer.TheVariants as bound_answer
 use Rattle.bound.specs.Bound as bound
-use Rattle.promises.specs.declared.TwoAnswer.TheVariants as two_answer
 use Rattle.two_bound.specs.Two as two
 use Rattle.staged_bound.specs.Staged as staged_call
 use Rattle.planner.proofs.Alike.{alike_new}
@@ -27,7 +25,7 @@ module _ (s : List ℕ) (choices : Choices) (ws : List ℕ) (m : Memory) where
 
   -- the storage checks are the same
   pub one_stored : first_refusal (bound.memory_checks (widened J) (capacity J weight) m) ≡ first_refusal (storage_checks J (one_weight weight J) m)
-  one_stored = stored_is Passed J (one_weight weight J) m m (words_needed (widened J) (capacity J weight)) (one_words J weight)
+  one_stored = stored_is passed J (one_weight weight J) m m (words_needed (widened J) (capacity J weight)) (one_words J weight)
 
   pub one_report : block_report s choices ws ≡ bound_report J (one_weight weight J) (capacity J weight)
   one_report = λ i. record { bound = sym (bound_is J weight) i; capacity = capacity J weight; length_count = position_count (widened J) Length; columns = position_count (widened J) Width }
@@ -44,16 +42,16 @@ module _ (s : List ℕ) (choices : Choices) (ws : List ℕ) (m : Memory) where
   }
 
   -- from answer and memory alone
-  pub bound_from : (n : Memory) (r : BoundAnswer) → r ≡ bound.bound_answer s choices ws m → bound.BoundLeaves s choices ws m n → (Accepted s choices ws → bound.BlockHolds s choices ws) → BoundPromises s choices ws m n r
+  pub bound_from : (n : Memory) (r : Answer BoundReport) → r ≡ bound.bound_answer s choices ws m → bound.BoundLeaves s choices ws m n → (Accepted s choices ws → bound.BlockHolds s choices ws) → BoundPromises s choices ws m n r
   bound_from n r e l h = record {
-    answers = answers_by bound_form (λ b. refl) (λ x. refl) (next (accept_verdict s choices ws) (first_refusal (storage_checks J (one_weight weight J) m))) (bound_report J (one_weight weight J) (capacity J weight)) r
-        (e ∙ ap₂ (λ v b. by_check (next (accept_verdict s choices ws) v) (bound_answer.Answered b) bound_answer.Refused) one_stored one_report);
+    answers = answers_by bound_values (next (accept_verdict s choices ws) (first_refusal (storage_checks J (one_weight weight J) m))) (bound_report J (one_weight weight J) (capacity J weight)) r
+        (e ∙ ap₂ (λ v b. by_check (next (accept_verdict s choices ws) v) (Ok b) Err) one_stored one_report);
     fills = one_fills (accept_verdict s choices ws) n l h;
     held = λ a. ((h a).held, (h a).full_capacity);
     kerf_none = alike_new s choices;
   }
 
-  pub bound_new : (n : Memory) (r : BoundAnswer) → bound.BoundPromises s choices ws m n r → BoundPromises s choices ws m n r
+  pub bound_new : (n : Memory) (r : Answer BoundReport) → bound.BoundPromises s choices ws m n r → BoundPromises s choices ws m n r
   bound_new n r p = bound_from n r p.answers p.memory p.accepted
 
 -- the recursion by blocks
@@ -86,11 +84,11 @@ module _ (s : List ℕ) (choices : Choices) (ws : List ℕ) (k : ℕ) (m : Memor
     floors = λ a. floors (block_job s choices) (within_stages (weight_in ws) k (block_job s choices)) (solid s choices ws m a) (staged_sound (block_job s choices) (weight_in ws) k);
   }
 
-  pub staged_new : (n : Memory) (r : BoundAnswer) → staged_call.StagedPromises s choices ws k m n r → StagedPromises s choices ws k m n r
+  pub staged_new : (n : Memory) (r : Answer BoundReport) → staged_call.StagedPromises s choices ws k m n r → StagedPromises s choices ws k m n r
   staged_new n r p = record {
-    answers = answers_by bound_form (λ b. refl) (λ x. refl) (next (next (accept_verdict s choices ws) (first_refusal (limit_check k ∷ []))) (first_refusal (storage_checks (block_job s choices) (within_stages (weight_in ws) k (block_job s choices)) m)))
+    answers = answers_by bound_values (next (next (accept_verdict s choices ws) (first_refusal (limit_check k ∷ []))) (first_refusal (storage_checks (block_job s choices) (within_stages (weight_in ws) k (block_job s choices)) m)))
         (bound_report (block_job s choices) (within_stages (weight_in ws) k (block_job s choices)) (capacity (block_job s choices) (weight_in ws))) r
-        (p.answers ∙ ap (λ b. by_check (next (next (accept_verdict s choices ws) (first_refusal (limit_check k ∷ []))) (first_refusal (storage_checks (block_job s choices) (within_stages (weight_in ws) k (block_job s choices)) m))) (bound_answer.Answered b) bound_answer.Refused) staged_reported);
+        (p.answers ∙ ap (λ b. by_check (next (next (accept_verdict s choices ws) (first_refusal (limit_check k ∷ []))) (first_refusal (storage_checks (block_job s choices) (within_stages (weight_in ws) k (block_job s choices)) m))) (Ok b) Err) staged_reported);
     fills = staged_fills (next (accept_verdict s choices ws) (first_refusal (limit_check k ∷ []))) n p.memory p.accepted;
     blocks = blocks_new (widened (block_job s choices)) (weight_in ws);
     more = λ a j h. rw (staged_is (block_job s choices) (weight_in ws) k) (rw (staged_is (block_job s choices) (weight_in ws) j) ((p.accepted a).more j h));
@@ -103,22 +101,22 @@ module _ (s : List ℕ) (choices : Choices) (first second : List ℕ) (m : Memor
 
   two_stored : first_refusal (two.two_storage_checks (widened (block_job s choices)) (capacity (block_job s choices) (weight_in first)) (capacity (block_job s choices) (weight_in second)) m)
       ≡ first_refusal (storage_checks (block_job s choices) (two_weights (weight_in first) (weight_in second) (block_job s choices)) m)
-  two_stored = stored_is Passed (block_job s choices) (two_weights (weight_in first) (weight_in second) (block_job s choices)) m m (two_words (widened (block_job s choices)) (capacity (block_job s choices) (weight_in first)) (capacity (block_job s choices) (weight_in second)))
+  two_stored = stored_is passed (block_job s choices) (two_weights (weight_in first) (weight_in second) (block_job s choices)) m m (two_words (widened (block_job s choices)) (capacity (block_job s choices) (weight_in first)) (capacity (block_job s choices) (weight_in second)))
       (pair_words (block_job s choices) (weight_in first) (weight_in second))
 
   -- a report of two weights with this bound and second capacity
   abbrev two_reported : ℕ → ℕ → TwoReport
   two_reported n q = record { bound = n; first_capacity = capacity (block_job s choices) (weight_in first); second_capacity = q; length_count = position_count (widened (block_job s choices)) Length; columns = position_count (widened (block_job s choices)) Width }
 
-  one_alone : (v : Checked) → two.with_second_none (bound.answer_by v (block_report s choices first)) ≡ by_check v (two_answer.Answered (two_reported (bound_in (block_job s choices) (one_weight (weight_in first) (block_job s choices))) 0)) two_answer.Refused
-  one_alone Passed = ap (λ n. two_answer.Answered (two_reported n 0)) (sym (bound_is (block_job s choices) (weight_in first)))
-  one_alone (Refused x) = refl
+  one_alone : (v : Checked) → two.with_second_none (bound.answer_by v (block_report s choices first)) ≡ by_check v (Ok (two_reported (bound_in (block_job s choices) (one_weight (weight_in first) (block_job s choices))) 0)) Err
+  one_alone (Ok _) = ap (λ n. Ok (two_reported n 0)) (sym (bound_is (block_job s choices) (weight_in first)))
+  one_alone (Err x) = refl
 
-  pub two_new : (n : Memory) (r : TwoAnswer) → two.TwoPromises s choices first second m n r → TwoPromises s choices first second m n r
+  pub two_new : (n : Memory) (r : Answer TwoReport) → two.TwoPromises s choices first second m n r → TwoPromises s choices first second m n r
   two_new n r p = record {
-    answers = answers_by two_form (λ b. refl) (λ x. refl) (next (accepts_two s choices first second) (first_refusal (storage_checks (block_job s choices) (two_weights (weight_in first) (weight_in second) (block_job s choices)) m)))
+    answers = answers_by two_values (next (accepts_two s choices first second) (first_refusal (storage_checks (block_job s choices) (two_weights (weight_in first) (weight_in second) (block_job s choices)) m)))
         (two_reported (bound_in (block_job s choices) (two_weights (weight_in first) (weight_in second) (block_job s choices))) (capacity (block_job s choices) (weight_in second))) r
-        (p.answers ∙ ap₂ (λ v b. by_check (next (accepts_two s choices first second) v) (two_answer.Answered (two_reported b (capacity (block_job s choices) (weight_in second)))) two_answer.Refused) two_stored (sym (two_is (block_job s choices) (weight_in first) (weight_in second))));
+        (p.answers ∙ ap₂ (λ v b. by_check (next (accepts_two s choices first second) v) (Ok (two_reported b (capacity (block_job s choices) (weight_in second)))) Err) two_stored (sym (two_is (block_job s choices) (weight_in first) (weight_in second))));
     fills = record {
       memory = two_leaves (accepts_two s choices first second) (block_job s choices) (weight_in first) (weight_in second) m n p.memory;
       normal = p.normal;
@@ -128,7 +126,7 @@ module _ (s : List ℕ) (choices : Choices) (first second : List ℕ) (m : Memor
       floors = λ a. floors (block_job s choices) (two_weights (weight_in first) (weight_in second) (block_job s choices)) (two_solid a) (two_sound (block_job s choices) (weight_in first) (weight_in second));
     };
     one = λ e z. (let o = p.one e z in (
-      o.0 ∙ (one_alone (bound.bound_verdict s choices first m) ∙ ap (λ v. by_check (next (accept_verdict s choices first) v) (two_answer.Answered (two_reported (bound_in (block_job s choices) (one_weight (weight_in first) (block_job s choices))) 0)) two_answer.Refused) (one_stored s choices first m)),
+      o.0 ∙ (one_alone (bound.bound_verdict s choices first m) ∙ ap (λ v. by_check (next (accept_verdict s choices first) v) (Ok (two_reported (bound_in (block_job s choices) (one_weight (weight_in first) (block_job s choices))) 0)) Err) (one_stored s choices first m)),
       one_leaves (accept_verdict s choices first) (block_job s choices) (weight_in first) m n o.1,
     ));
   }

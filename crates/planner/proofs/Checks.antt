@@ -1,12 +1,17 @@
 -- The check of a plan: verdict and report are the inner check's, and what they mean for trees.
-use Rattle.planner.proofs.Prelude.{◌≡◌, refl, sym, ◌∙◌, ap, ap₂, subst, Option, none, some, List, [], ◌∷◌, ◌++◌, ℕ, ◌+◌, ◌*◌, ◌≤◌, zero-add, arith, ltb, length, take_all, le-ltb, ltb-false, Rect, Tree, waste, piece, cut, IdleFree, Piece, upright, turned, saw, node_count, Job, laid, preorder, areas_sum, stages_paths, by_check, next, first_refusal, NodeLeft, Checked, Passed, Refused, passed_both, next_passed, cons_passed, idle_checks, tree_checks, idle_tree, passed_free, free_passed, passed_within, within_passed, path_checks, Report, PlanAnswer, TreeAnswer, node_of, node_checks, parts, report_after, passed, proceed, tree_stopped, left_check, only_tree, nodes_in, empty_report, plan_checks, walk_answer, plan_answer, tree_in, DrawnAs, walk_ends, nodes_length, whole_passes, whole_counts, verdict_is, written, written_kinds, written_operands, kinds_length, operands_length, plans_checked, nodes_are, drawn_is, tree_drawn, drawn_tree, WithinLimit, waste_area, trim_area, sawdust_area, tree_report, stage_checks, tree_walk, walked, walk_verdict, plan_verdict, Checks}
+use Rattle.planner.proofs.Prelude.{◌≡◌, refl, sym, ◌∙◌, ap, ap₂, subst, Option, none, some, List, [], ◌∷◌, ◌++◌, ℕ, ◌+◌, ◌*◌, ◌≤◌, zero-add, arith, ltb, length, take_all, le-ltb, ltb-false, Rect, Tree, waste, piece, cut, IdleFree, Piece, upright, turned, saw, node_count, Job, laid, preorder, areas_sum, stages_paths, by_check, next, first_refusal, NodeLeft, passed_both, next_passed, cons_passed, idle_checks, tree_checks, idle_tree, passed_free, free_passed, passed_within, within_passed, path_checks, Report, TreeWalk, node_of, node_checks, parts, report_after, proceed, left_check, only_tree, nodes_in, empty_report, plan_checks, walk_answer, plan_answer, tree_in, DrawnAs, walk_ends, tree_passed, nodes_length, whole_passes, whole_counts, verdict_is, written, written_kinds, written_operands, kinds_length, operands_length, plans_checked, nodes_are, drawn_is, tree_drawn, drawn_tree, WithinLimit, waste_area, trim_area, sawdust_area, tree_report, stage_checks, tree_walk, walked, walk_verdict, plan_verdict, Checks, Ok, Err, Checked, Answer, passed, verdict_of, answer_by, ForOk}
 use Rattle.cutting.specs.Areas as areas
 use Rattle.plan.specs.Plan as old
 use Rattle.plan.specs.Trees as old_trees
 
+-- an answer that passes has a value
+pub value_of : {A : Type 0} (a : Answer A) → verdict_of a ≡ passed → (x : A) × (a ≡ Ok x)
+value_of (Ok x) p = (x, refl)
+value_of (Err r) p = cc
+
 next_assoc : (a b c : Checked) → next (next a b) c ≡ next a (next b c)
-next_assoc Passed b c = refl
-next_assoc (Refused r) b c = refl
+next_assoc (Ok _) b c = refl
+next_assoc (Err r) b c = refl
 
 -- the areas
 waste_is : (k : ℕ) (t : Tree Piece) (r : Rect) → waste_area k r t ≡ areas.waste_area (saw k) r t
@@ -39,18 +44,21 @@ report_is J t = λ i. record {
 }
 
 -- the walk over one tree, without its sums
-abbrev pub Same : Checked × ℕ → TreeAnswer → Type 0
-Same w a = (w.0 ≡ a.verdict) × (a.verdict ≡ Passed → w.1 ≡ a.past)
+abbrev pub Same : Checked × ℕ → Answer TreeWalk → Type 0
+Same w a = (w.0 ≡ verdict_of a) × ForOk a (λ t. w.1 ≡ t.past)
 
-same_by : (v : Checked) (k : ℕ) (w : Checked × ℕ) (a : TreeAnswer) → Same w a → Same (by_check v w (λ x. (Refused x, k))) (by_check v a (λ x. tree_stopped (Refused x)))
-same_by Passed k w a h = h
-same_by (Refused x) k w a h = (refl, λ e. absurd (let z : ◌≡◌ {A = ℕ} 0 1 = cc in omega arith))
+same_by : (v : Checked) (k : ℕ) (w : Checked × ℕ) (a : Answer TreeWalk) → Same w a → Same (by_check v w (λ x. (Err x, k))) (by_check v a Err)
+same_by (Ok _) k w a h = h
+same_by (Err x) k w a h = (refl, λ t e. cc)
+
+ended : (k : ℕ) (s : Report) (t : TreeWalk) → tree_passed k s ≡ Ok t → k ≡ t.past
+ended k s t e = let f : ◌≡◌ {A = TreeWalk} (record { report = s; past = k }) t = cc in ap (λ (t : TreeWalk). t.past) f
 
 pub walk_same : (J : Job) (k : ℕ) (ns : List (ℕ × ℕ)) (rs : List Rect) (s : Report) → Same (tree_walk J k ns rs s.copies) (old.tree_walk J k ns rs s)
 unfolding tree_walk old.tree_walk
-walk_same J k [] [] s = (refl, λ e. refl)
-walk_same J k (n ∷ ns) [] s = (refl, λ e. refl)
-walk_same J k [] (r ∷ rs) s = (refl, λ e. absurd (let z : ◌≡◌ {A = ℕ} 0 1 = cc in omega arith))
+walk_same J k [] [] s = (refl, ended k s)
+walk_same J k (n ∷ ns) [] s = (refl, ended k s)
+walk_same J k [] (r ∷ rs) s = (refl, λ t e. cc)
 walk_same J k (n ∷ ns) (r ∷ rs) s = same_by (first_refusal (node_checks J s.copies r k n.0 n.1)) k _ _
     (walk_same J (k + 1) ns (parts J.kerf (node_of n.0 n.1) r ++ rs) (report_after J (node_of n.0 n.1) r s))
 
@@ -62,65 +70,66 @@ some_node (piece (turned i)) = omega arith
 some_node (cut d x a b) = omega arith
 
 -- a limit's check of a tree passes exactly within it
-limit_passes : (limit : Option ℕ) (t : Tree Piece) → WithinLimit limit t → first_refusal (stage_checks limit t) ≡ Passed
+limit_passes : (limit : Option ℕ) (t : Tree Piece) → WithinLimit limit t → first_refusal (stage_checks limit t) ≡ passed
 unfolding first_refusal
 limit_passes none t h = refl
 limit_passes (some n) t h = within_passed t n (rw (stages_paths t) h)
 
-passes_limit : (limit : Option ℕ) (t : Tree Piece) → first_refusal (stage_checks limit t) ≡ Passed → WithinLimit limit t
+passes_limit : (limit : Option ℕ) (t : Tree Piece) → first_refusal (stage_checks limit t) ≡ passed → WithinLimit limit t
 passes_limit none t h = tt
 passes_limit (some n) t h = rw⁻¹ (stages_paths t) (passed_within t n h)
 
-left_passes : (n k : ℕ) → n ≤ k → first_refusal (left_check n k ∷ []) ≡ Passed
+left_passes : (n k : ℕ) → n ≤ k → first_refusal (left_check n k ∷ []) ≡ passed
 unfolding first_refusal
 left_passes n k h = simp (le-ltb k n h)
 
-passes_left : (n k : ℕ) → first_refusal (left_check n k ∷ []) ≡ Passed → n ≤ k
+passes_left : (n k : ℕ) → first_refusal (left_check n k ∷ []) ≡ passed → n ≤ k
 passes_left n k h = ltb-false k n (cons_passed (ltb k n) (NodeLeft k) [] h).0
 
 module _ (J : Job) (kinds operands : List ℕ) where
   abbrev nodes : List (ℕ × ℕ)
   nodes = nodes_in kinds operands
 
-  abbrev whole : TreeAnswer
+  abbrev whole : Answer TreeWalk
   whole = old.tree_walk J 0 nodes (J.plate ∷ []) empty_report
 
   same : Same (walked J 0 nodes) whole
   same = walk_same J 0 nodes (J.plate ∷ []) empty_report
 
   -- 10 to 18 as the inner check answers them
-  proceed_verdict : (v : Checked) (a : PlanAnswer) → (proceed v a).verdict ≡ next v a.verdict
-  proceed_verdict Passed a = refl
-  proceed_verdict (Refused r) a = refl
+  proceed_verdict : (v : Checked) (a : Answer Report) → verdict_of (proceed v a) ≡ next v (verdict_of a)
+  proceed_verdict (Ok _) a = refl
+  proceed_verdict (Err r) a = refl
 
-  only_verdict : (v : Checked) (s : Report) → (proceed v (passed s)).verdict ≡ v
-  only_verdict Passed s = refl
-  only_verdict (Refused r) s = refl
+  only_verdict : (v : Checked) (s : Report) → verdict_of (answer_by v s) ≡ v
+  only_verdict (Ok _) s = refl
+  only_verdict (Err r) s = refl
 
-  left_is : (v : Checked) → whole.verdict ≡ v → next (walked J 0 nodes).0 (first_refusal (left_check (length kinds) (walked J 0 nodes).1 ∷ [])) ≡ next whole.verdict (first_refusal (left_check (length kinds) whole.past ∷ []))
-  left_is Passed e = ap₂ (λ v k. next v (first_refusal (left_check (length kinds) k ∷ []))) same.0 (same.1 e)
-  left_is (Refused r) e = ap (λ v. next v (first_refusal (left_check (length kinds) (walked J 0 nodes).1 ∷ []))) (same.0 ∙ e) ∙ sym (ap (λ v. next v (first_refusal (left_check (length kinds) whole.past ∷ []))) e)
+  left_is : (a : Answer TreeWalk) → whole ≡ a → verdict_of (only_tree (length kinds) a) ≡ next (walked J 0 nodes).0 (first_refusal (left_check (length kinds) (walked J 0 nodes).1 ∷ []))
+  left_is (Ok t) e = only_verdict (first_refusal (left_check (length kinds) t.past ∷ [])) t.report
+      ∙ sym (ap₂ (λ v k. next v (first_refusal (left_check (length kinds) k ∷ []))) (same.0 ∙ ap verdict_of e) (same.1 t e))
+  left_is (Err r) e = sym (ap (λ v. next v (first_refusal (left_check (length kinds) (walked J 0 nodes).1 ∷ []))) (same.0 ∙ ap verdict_of e))
 
-  pub walk_is : walk_verdict J kinds operands ≡ (walk_answer J kinds operands).verdict
+  pub walk_is : walk_verdict J kinds operands ≡ verdict_of (walk_answer J kinds operands)
   unfolding walk_answer
   walk_is = sym (proceed_verdict (first_refusal (plan_checks kinds operands)) (old.walk J 0 nodes (J.plate ∷ []) empty_report) ∙ go (first_refusal (plan_checks kinds operands)) refl)
     where
-      go : (v : Checked) → first_refusal (plan_checks kinds operands) ≡ v → next v (old.walk J 0 nodes (J.plate ∷ []) empty_report).verdict ≡ next v (next (walked J 0 nodes).0 (first_refusal (left_check (length kinds) (walked J 0 nodes).1 ∷ [])))
-      go Passed e = ap (λ (a : PlanAnswer). a.verdict) (walk_ends J 0 nodes (J.plate ∷ []) empty_report ∙ ap (λ n. only_tree n whole) (zero-add (length nodes) ∙ nodes_length kinds operands (whole_counts kinds operands e).0))
-          ∙ (only_verdict (next whole.verdict (first_refusal (left_check (length kinds) whole.past ∷ []))) whole.report ∙ sym (left_is whole.verdict refl))
-      go (Refused r) e = refl
+      go : (v : Checked) → first_refusal (plan_checks kinds operands) ≡ v → next v (verdict_of (old.walk J 0 nodes (J.plate ∷ []) empty_report)) ≡ next v (next (walked J 0 nodes).0 (first_refusal (left_check (length kinds) (walked J 0 nodes).1 ∷ [])))
+      go (Ok _) e = ap verdict_of (walk_ends J 0 nodes (J.plate ∷ []) empty_report ∙ ap (λ n. only_tree n whole) (zero-add (length nodes) ∙ nodes_length kinds operands (whole_counts kinds operands e).0))
+          ∙ left_is whole refl
+      go (Err r) e = refl
 
   module _ (few : J.count ≤ 64) where
     -- arrays that pass them are drawn as a tree
-    pub walk_drawn : walk_verdict J kinds operands ≡ Passed → (t : Tree Piece) × DrawnAs J t kinds operands
+    pub walk_drawn : walk_verdict J kinds operands ≡ passed → (t : Tree Piece) × DrawnAs J t kinds operands
     walk_drawn p =
         let v = passed_both (first_refusal (plan_checks kinds operands)) (next (walked J 0 nodes).0 (first_refusal (left_check (length kinds) (walked J 0 nodes).1 ∷ []))) p in
         let w = passed_both (walked J 0 nodes).0 (first_refusal (left_check (length kinds) (walked J 0 nodes).1 ∷ [])) v.1 in
         let g = whole_counts kinds operands v.0 in
-        let passes : whole.verdict ≡ Passed = sym same.0 ∙ w.0 in
-        let d = tree_drawn J few 0 nodes passes in
+        let t = value_of whole (sym same.0 ∙ w.0) in
+        let d = tree_drawn J few 0 nodes t.1 in
         let n = nodes_length kinds operands g.0 in
-        let past : (walked J 0 nodes).1 ≡ 0 + node_count d.tree = same.1 passes ∙ ap (λ (a : TreeAnswer). a.past) d.answer in
+        let past : (walked J 0 nodes).1 ≡ 0 + node_count d.tree = same.1 _ d.answer in
         let most = passes_left (length kinds) (walked J 0 nodes).1 w.1 in
         let all : nodes ≡ written d.tree = sym (take_all (node_count d.tree) nodes (omega (arith, n, past, most))) ∙ d.nodes in (
           d.tree,
@@ -134,22 +143,21 @@ module _ (J : Job) (kinds operands : List ℕ) where
         )
 
     -- and the other way
-    pub drawn_walk : (t : Tree Piece) → DrawnAs J t kinds operands → walk_verdict J kinds operands ≡ Passed
+    pub drawn_walk : (t : Tree Piece) → DrawnAs J t kinds operands → walk_verdict J kinds operands ≡ passed
     drawn_walk t d =
         let a = ap length d.kinds_are ∙ kinds_length t in
         let b = ap length d.operands_are ∙ operands_length t in
         let e : whole ≡ _ = ap (λ ns. old.tree_walk J 0 ns (J.plate ∷ []) empty_report) (nodes_are J kinds operands t d) ∙ drawn_tree J few 0 t d.on_plate d.demands [] in
-        let passes : whole.verdict ≡ Passed = ap (λ (a : TreeAnswer). a.verdict) e in
-        let past : (walked J 0 nodes).1 ≡ 0 + node_count t = same.1 passes ∙ ap (λ (a : TreeAnswer). a.past) e in
+        let past : (walked J 0 nodes).1 ≡ 0 + node_count t = same.1 _ e in
         ap₂ next (whole_passes kinds operands (a ∙ sym b) (omega (arith, a, some_node t)) (omega (arith, a, d.nodes)))
-        (ap₂ next (same.0 ∙ passes) (left_passes (length kinds) (walked J 0 nodes).1 (omega (arith, past, a))))
+        (ap₂ next (same.0 ∙ ap verdict_of e) (left_passes (length kinds) (walked J 0 nodes).1 (omega (arith, past, a))))
 
     -- 26, and within a limit 23, decide for every tree
     judged : (limit : Option ℕ) (t : Tree Piece) → DrawnAs J t kinds operands → plan_verdict J limit kinds operands ≡ next (first_refusal (tree_checks 0 t)) (first_refusal (stage_checks limit t))
     judged limit t d = ap₂ (λ v u. next v (next (first_refusal (tree_checks 0 u)) (first_refusal (stage_checks limit u)))) (drawn_walk t d) (sym (drawn_is J kinds operands t d))
 
 -- what the verdict means for trees, after the checks before it
-pub checks_new : (before : Checked) (J : Job) → (before ≡ Passed → J.count ≤ 64) → (limit : Option ℕ) (kinds operands : List ℕ) → Checks before J limit kinds operands
+pub checks_new : (before : Checked) (J : Job) → (before ≡ passed → J.count ≤ 64) → (limit : Option ℕ) (kinds operands : List ℕ) → Checks before J limit kinds operands
 checks_new before J f limit kinds operands = record {
   passes = λ b t h u. after b (judged J kinds operands (f b) limit t h.drawn ∙ ap₂ next (free_passed t 0 h.idle_free) (limit_passes limit t u));
   before = λ p. (passed_both before own p).0;
@@ -166,10 +174,10 @@ checks_new before J f limit kinds operands = record {
     own : Checked
     own = plan_verdict J limit kinds operands
 
-    after : {v : Checked} → before ≡ Passed → own ≡ v → next before own ≡ v
+    after : {v : Checked} → before ≡ passed → own ≡ v → next before own ≡ v
     after b e = ap (λ w. next w own) b ∙ e
 
-    behind : next before own ≡ Passed → (before ≡ Passed) × DrawnAs J plan_tree kinds operands × (first_refusal (tree_checks 0 plan_tree) ≡ Passed) × (first_refusal (stage_checks limit plan_tree) ≡ Passed)
+    behind : next before own ≡ passed → (before ≡ passed) × DrawnAs J plan_tree kinds operands × (first_refusal (tree_checks 0 plan_tree) ≡ passed) × (first_refusal (stage_checks limit plan_tree) ≡ passed)
     behind p =
         let b = passed_both before own p in
         let w = passed_both (walk_verdict J kinds operands) (next (first_refusal (tree_checks 0 plan_tree)) (first_refusal (stage_checks limit plan_tree))) b.1 in
@@ -178,35 +186,43 @@ checks_new before J f limit kinds operands = record {
         (b.0, subst (λ u. DrawnAs J u kinds operands) (drawn_is J kinds operands d.0 d.1) d.1, c.0, c.1)
 
     free : ((t : Tree Piece) → DrawnAs J t kinds operands → IdleFree t) → (v : Checked) → before ≡ v → next before own ≡ next before (next (walk_verdict J kinds operands) (first_refusal (stage_checks limit plan_tree)))
-    free h (Refused x) e = ap (λ w. next w own) e ∙ sym (ap (λ w. next w (next (walk_verdict J kinds operands) (first_refusal (stage_checks limit plan_tree)))) e)
-    free h Passed e = ap (next before) (go (walk_verdict J kinds operands) refl)
+    free h (Err x) e = ap (λ w. next w own) e ∙ sym (ap (λ w. next w (next (walk_verdict J kinds operands) (first_refusal (stage_checks limit plan_tree)))) e)
+    free h (Ok _) e = ap (next before) (go (walk_verdict J kinds operands) refl)
       where
         go : (v : Checked) → walk_verdict J kinds operands ≡ v → next v (next (first_refusal (tree_checks 0 plan_tree)) (first_refusal (stage_checks limit plan_tree))) ≡ next v (first_refusal (stage_checks limit plan_tree))
-        go (Refused x) k = refl
-        go Passed k = (let d = walk_drawn J kinds operands (f e) k in
+        go (Err x) k = refl
+        go (Ok _) k = (let d = walk_drawn J kinds operands (f e) k in
             let i = drawn_is J kinds operands d.0 d.1 in
             ap (λ w. next w (first_refusal (stage_checks limit plan_tree))) (free_passed plan_tree 0 (subst IdleFree i (h d.0 d.1))))
 
 -- the verdict is the inner check's, without a limit and with one
 module _ (J : Job) (few : J.count ≤ 64) (kinds operands : List ℕ) where
   idle_is : (v : Checked) → walk_verdict J kinds operands ≡ v → next v (first_refusal (tree_checks 0 (tree_in kinds operands))) ≡ next v (first_refusal (idle_checks 0 kinds))
-  idle_is (Refused x) e = refl
-  idle_is Passed e =
+  idle_is (Err x) e = refl
+  idle_is (Ok _) e =
       let d = walk_drawn J kinds operands few e in
       ap first_refusal (ap (tree_checks 0) (sym (drawn_is J kinds operands d.0 d.1)) ∙ sym (ap (idle_checks 0) d.1.kinds_are ∙ idle_tree d.0 0))
 
-  pub verdict_none : plan_verdict J none kinds operands ≡ (plan_answer J kinds operands).verdict
+  pub verdict_none : plan_verdict J none kinds operands ≡ verdict_of (plan_answer J kinds operands)
   unfolding first_refusal
   verdict_none = ap (next (walk_verdict J kinds operands)) (sym (next_passed (first_refusal (tree_checks 0 (tree_in kinds operands)))))
       ∙ (idle_is (walk_verdict J kinds operands) refl ∙ (ap (λ v. next v (first_refusal (idle_checks 0 kinds))) (walk_is J kinds operands) ∙ sym (verdict_is J kinds operands)))
 
-  pub verdict_some : (n : ℕ) → plan_verdict J (some n) kinds operands ≡ next (plan_answer J kinds operands).verdict (first_refusal (path_checks n (tree_in kinds operands)))
+  pub verdict_some : (n : ℕ) → plan_verdict J (some n) kinds operands ≡ next (verdict_of (plan_answer J kinds operands)) (first_refusal (path_checks n (tree_in kinds operands)))
   verdict_some n = sym (next_assoc (walk_verdict J kinds operands) (first_refusal (tree_checks 0 (tree_in kinds operands))) (first_refusal (path_checks n (tree_in kinds operands))))
       ∙ ap (λ v. next v (first_refusal (path_checks n (tree_in kinds operands))))
       (idle_is (walk_verdict J kinds operands) refl ∙ (ap (λ v. next v (first_refusal (idle_checks 0 kinds))) (walk_is J kinds operands) ∙ sym (verdict_is J kinds operands)))
 
   -- a passed plan's report is that of the tree that its arrays draw
-  pub reported : (plan_answer J kinds operands).verdict ≡ Passed → (plan_answer J kinds operands).report ≡ tree_report J (tree_in kinds operands)
-  reported p =
-      let t = (plans_checked J few kinds operands).tree p in
+  pub reported : {r : Report} → plan_answer J kinds operands ≡ Ok r → r ≡ tree_report J (tree_in kinds operands)
+  reported {r} p =
+      let t = (plans_checked J few kinds operands).tree r p in
       t.2.own ∙ (ap (old_trees.tree_report J) (drawn_is J kinds operands t.0 t.1.drawn) ∙ sym (report_is J (tree_in kinds operands)))
+
+  -- so its answer is that tree's report where the verdict passes, and else the refusal
+  pub plan_is : plan_answer J kinds operands ≡ answer_by (plan_verdict J none kinds operands) (tree_report J (tree_in kinds operands))
+  plan_is = go (plan_answer J kinds operands) refl ∙ sym (ap (λ v. answer_by v (tree_report J (tree_in kinds operands))) verdict_none)
+    where
+      go : (a : Answer Report) → plan_answer J kinds operands ≡ a → plan_answer J kinds operands ≡ answer_by (verdict_of (plan_answer J kinds operands)) (tree_report J (tree_in kinds operands))
+      go (Ok r) e = e ∙ ap Ok (reported e) ∙ sym (ap (λ a. answer_by (verdict_of a) (tree_report J (tree_in kinds operands))) e)
+      go (Err x) e = e ∙ sym (ap (λ a. answer_by (verdict_of a) (tree_report J (tree_in kinds operands))) e)

@@ -1,6 +1,5 @@
 -- Numbers, places and lent memory: what the inner definitions say is what the promises' say.
-use Rattle.planner.proofs.Prelude.{◌≡◌, refl, sym, ◌∙◌, ap, List, [], ◌∷◌, ℕ, ltb, length, get_or, arith, Length, Width, Job, widened, capacity, by_kind, figure_of, normal_positions, staged, figure_two, by_copies, full_state, exact_figure, block_figure, by_check, next, first_refusal, Refusal, Checked, Passed, Refused, position, words_needed, two_words, staged_words, Memory, refused_as, outcome_by, System, one_weight, two_weights, remaining_copies, within_stages, table_words, Form, Answers, storage_checks, Leaves}
-use Rattle.refusal.specs.Refusals as old
+use Rattle.planner.proofs.Prelude.{◌≡◌, refl, sym, ◌∙◌, ap, List, [], ◌∷◌, ℕ, ltb, length, get_or, arith, Length, Width, Job, widened, capacity, by_kind, figure_of, normal_positions, staged, figure_two, by_copies, full_state, exact_figure, block_figure, by_check, next, first_refusal, Refusal, position, words_needed, two_words, staged_words, Memory, refused_as, outcome_by, System, one_weight, two_weights, remaining_copies, within_stages, table_words, Answers, storage_checks, Leaves, Ok, Err, Checked, Answer, outcome_of, said_by}
 use Rattle.promises.specs.declared.Refusal.TheVariants as refusal
 use Rattle.bound.specs.Bound as bound
 use Rattle.two_bound.specs.Two as two
@@ -11,60 +10,9 @@ use Rattle.promises.specs.Systems as new
 use Rattle.promises.specs.Call.{list_check}
 use Rattle.planner.proofs.Figures.{figure_is}
 
--- the table's lines
-pub refused_is : (r : Refusal) → old.refused_as r ≡ refused_as r
-refused_is refusal.ShortHeader = refl
-refused_is refusal.PlateSide = refl
-refused_is (refusal.RackSide k) = refl
-refused_is refusal.KindCount = refl
-refused_is refusal.BlockLength = refl
-refused_is (refusal.KindSide k) = refl
-refused_is (refusal.Price k) = refl
-refused_is (refusal.Demand k) = refl
-refused_is refusal.WeightCount = refl
-refused_is refusal.Capacity = refl
-refused_is refusal.PlanLength = refl
-refused_is refusal.NodeCount = refl
-refused_is (refusal.NodeKind k) = refl
-refused_is (refusal.PieceNumber k) = refl
-refused_is (refusal.Operand k) = refl
-refused_is (refusal.Misfit k) = refl
-refused_is (refusal.Excess k) = refl
-refused_is (refusal.NodeMissing k) = refl
-refused_is (refusal.NodeLeft k) = refl
-refused_is refusal.ListShort = refl
-refused_is (refusal.TableShort n) = refl
-refused_is (refusal.PlanLong n) = refl
-refused_is refusal.StageLimit = refl
-refused_is (refusal.ManyStages k) = refl
-refused_is refusal.SecondCount = refl
-refused_is refusal.CapacityProduct = refl
-refused_is (refusal.IdleCut k) = refl
-refused_is refusal.Kerf = refl
-refused_is refusal.RackSize = refl
-refused_is (refusal.RackDemand k) = refl
-refused_is refusal.DemandProduct = refl
-refused_is refusal.SizesLength = refl
-refused_is (refusal.TrueSize k) = refl
-refused_is (refusal.NoModel k) = refl
-refused_is (refusal.TrueMisfit k) = refl
-refused_is (refusal.Grain k) = refl
-refused_is (refusal.AgainstGrain k) = refl
-refused_is refusal.MultiplierCount = refl
-refused_is (refusal.Multiplier k) = refl
-
-pub outcome_is : (v : Checked) (xs : List ℕ) → old.outcome_by v xs ≡ outcome_by v xs
-outcome_is Passed xs = refl
-outcome_is (Refused r) xs = refused_is r
-
--- an answer by its verdict has its number and values, where report and refusal have theirs
-pub answers_by : {A R : Type 0} (form : Form A R) → ((s : R) → form.outcome (form.answered s) ≡ (0, form.values s)) → ((x : Refusal) → form.outcome (form.refused x) ≡ refused_as x)
-    → (v : Checked) (s : R) (r : A) → r ≡ by_check v (form.answered s) form.refused → Answers form v s r
-answers_by form a b v s r e = record { answer = e; said = ap form.outcome e ∙ go v }
-  where
-    go : (v : Checked) → form.outcome (by_check v (form.answered s) form.refused) ≡ outcome_by v (form.values s)
-    go Passed = a s
-    go (Refused x) = b x
+-- an answer by its verdict has its number and values
+pub answers_by : {A : Type 0} (values : A → List ℕ) (v : Checked) (a : A) (r : Answer A) → r ≡ by_check v (Ok a) Err → Answers values v a r
+answers_by values v a r e = record { answer = e; said = ap (outcome_of values) e ∙ said_by values v a }
 
 module _ {S : Type 0} (before : Checked) (J : Job) (Y : System S) (m n : Memory) (words : ℕ) (e : table_words (widened J) Y ≡ words) where
   -- the storage checks by the words needed
@@ -72,8 +20,8 @@ module _ {S : Type 0} (before : Checked) (J : Job) (Y : System S) (m n : Memory)
   stored_is = ap (λ k. first_refusal (list_check J m ∷ (ltb (length m.table) k, refusal.TableShort k) ∷ [])) (sym e)
 
   after_by : (v : Checked) (A B C : Type 0) → (A → B) → by_check v A (λ r. C) → by_check v B (λ r. C)
-  after_by Passed A B C f a = f a
-  after_by (Refused r) A B C f c = c
+  after_by (Ok _) A B C f a = f a
+  after_by (Err r) A B C f c = c
 
   -- lent memory by the figures that the words hold
   pub leaves_by : {Holds : Type 0} → (Holds → new.Figures (widened J) Y n.table)

@@ -1,9 +1,8 @@
 -- The check of a model and the true plan: what the inner call promises gives its instance.
-use Rattle.planner.proofs.Prelude.{◌≡◌, refl, sym, ◌∙◌, ap, Bool, false, ◌||◌, Option, none, some, List, [], ◌∷◌, ℕ, ◌≤◌, arith, ltb, length, Tree, Piece, ◌⊑◌, kinds_of, operands_of, node_count, Job, profit, used_of, neat_of, ChainsFit, chains_fit, stages_paths, by_check, next, first_refusal, PlanLong, TrueMisfit, Checked, Passed, Refused, Choices, job_checks, record_of, block_job, passed_both, read_in_range, sizes_checks, sizes_of, plan_answer, tree_in, TruePlanAnswer, le-ltb, WithinLimit, NoneAbove, plan_verdict, Arrays, list_after, block_true_job, true_verdict, NoneBetter, StandsFor, ModelPromises, TruePlan, true_form, true_plan_verdict, TruePromises}
+use Rattle.planner.proofs.Prelude.{◌≡◌, refl, sym, ◌∙◌, ap, Bool, false, ◌||◌, Option, none, some, List, [], ◌∷◌, ℕ, ◌≤◌, arith, ltb, length, Tree, Piece, ◌⊑◌, kinds_of, operands_of, node_count, Job, profit, used_of, neat_of, ChainsFit, chains_fit, stages_paths, by_check, next, first_refusal, PlanLong, TrueMisfit, Choices, job_checks, record_of, block_job, passed_both, read_in_range, sizes_checks, sizes_of, plan_answer, tree_in, le-ltb, WithinLimit, NoneAbove, plan_verdict, Arrays, list_after, block_true_job, true_verdict, NoneBetter, StandsFor, ModelPromises, TruePlan, true_values, true_plan_verdict, TruePromises, Ok, Err, passed, Checked, Answer, TrueReport, verdict_of, answer_by}
 use Rattle.cutting.specs.Promises as old_trees
 use Rattle.cutting.specs.Staged as old_staged
 use Rattle.model.specs.Model as model
-use Rattle.promises.specs.declared.TruePlanAnswer.TheVariants as true_answer
 use Rattle.true_plan.specs.TruePlan as today
 use Rattle.promises.specs.Job.{OnPlate, KeepsDemands}
 use Rattle.promises.specs.True as true_sizes
@@ -55,7 +54,7 @@ module _ (M J : Job) (t : Tree Piece) (kinds operands : List ℕ) (q : today.Tru
     best = best_new;
   }
 
-module _ (s : List ℕ) (choices : Choices) (z : List ℕ) (plan old new : Arrays) (r : TruePlanAnswer) (p : today.TruePromises s choices z plan.0 plan.1 old.0 old.1 new.0 new.1 r) where
+module _ (s : List ℕ) (choices : Choices) (z : List ℕ) (plan old new : Arrays) (r : Answer TrueReport) (p : today.TruePromises s choices z plan.0 plan.1 old.0 old.1 new.0 new.1 r) where
   abbrev M : Job
   M = block_job s choices
 
@@ -65,14 +64,14 @@ module _ (s : List ℕ) (choices : Choices) (z : List ℕ) (plan old new : Array
   abbrev t : Tree Piece
   t = tree_in plan.0 plan.1
 
-  few : true_verdict s choices z ≡ Passed → M.count ≤ 64
+  few : true_verdict s choices z ≡ passed → M.count ≤ 64
   unfolding sizes_checks true_sizes.sizes_checks
   few b = (read_in_range s choices (passed_both (first_refusal (job_checks s choices)) (first_refusal (sizes_checks M.count z)) b).0).kinds.1
 
-  plan_is : true_verdict s choices z ≡ Passed → plan_verdict M none plan.0 plan.1 ≡ (plan_answer M plan.0 plan.1).verdict
+  plan_is : true_verdict s choices z ≡ passed → plan_verdict M none plan.0 plan.1 ≡ verdict_of (plan_answer M plan.0 plan.1)
   plan_is b = verdict_none M (few b) plan.0 plan.1
 
-  judged : next (true_verdict s choices z) (plan_verdict M none plan.0 plan.1) ≡ Passed → today.TruePlan M J t plan.0 plan.1
+  judged : next (true_verdict s choices z) (plan_verdict M none plan.0 plan.1) ≡ passed → today.TruePlan M J t plan.0 plan.1
   unfolding sizes_of record_of sizes_checks true_sizes.sizes_checks
   judged b =
       let v = passed_both (true_verdict s choices z) (plan_verdict M none plan.0 plan.1) b in
@@ -84,31 +83,31 @@ module _ (s : List ℕ) (choices : Choices) (z : List ℕ) (plan old new : Array
   last b = first_refusal ((ltb J.plate.0 (used_of J t).0, TrueMisfit 0) ∷ (ltb J.plate.1 (used_of J t).1, TrueMisfit 1) ∷ ((b || ltb (length old.0) (node_count (neat_of J t))) || ltb (length old.1) (node_count (neat_of J t)), PlanLong (node_count (neat_of J t))) ∷ [])
 
   -- a true plan has at most 4,095 nodes
-  small : next (true_verdict s choices z) (plan_verdict M none plan.0 plan.1) ≡ Passed → ltb 4095 (node_count (neat_of J t)) ≡ false
+  small : next (true_verdict s choices z) (plan_verdict M none plan.0 plan.1) ≡ passed → ltb 4095 (node_count (neat_of J t)) ≡ false
   small b = le-ltb 4095 (node_count (neat_of J t)) (omega (arith, (judged b).no_more_nodes, (judged b).drawn.drawn.nodes))
 
   assoc : (a b c : Checked) → next a (next b c) ≡ next (next a b) c
-  assoc Passed b c = refl
-  assoc (Refused x) b c = refl
+  assoc (Ok _) b c = refl
+  assoc (Err x) b c = refl
 
   -- where the blocks and the plan pass, 21 reads no more than the arrays
-  last_is : true_verdict s choices z ≡ Passed → next (plan_answer M plan.0 plan.1).verdict (last false) ≡ next (plan_verdict M none plan.0 plan.1) (last (ltb 4095 (node_count (neat_of J t))))
+  last_is : true_verdict s choices z ≡ passed → next (verdict_of (plan_answer M plan.0 plan.1)) (last false) ≡ next (plan_verdict M none plan.0 plan.1) (last (ltb 4095 (node_count (neat_of J t))))
   last_is h = ap (λ v. next v (last false)) (sym (plan_is h))
       ∙ next_same (plan_verdict M none plan.0 plan.1) (last false) (last (ltb 4095 (node_count (neat_of J t)))) (λ v. ap last (sym (small (both h v))))
     where
-      both : true_verdict s choices z ≡ Passed → plan_verdict M none plan.0 plan.1 ≡ Passed → next (true_verdict s choices z) (plan_verdict M none plan.0 plan.1) ≡ Passed
+      both : true_verdict s choices z ≡ passed → plan_verdict M none plan.0 plan.1 ≡ passed → next (true_verdict s choices z) (plan_verdict M none plan.0 plan.1) ≡ passed
       both a b = ap (λ v. next v (plan_verdict M none plan.0 plan.1)) a ∙ b
 
   verdict_is : today.true_verdict s choices z plan.0 plan.1 old.0 old.1 ≡ true_plan_verdict s choices z plan old
   unfolding sizes_of record_of sizes_checks true_sizes.sizes_checks
-  verdict_is = assoc (first_refusal (job_checks s choices)) (first_refusal (sizes_checks M.count z)) (next (plan_answer M plan.0 plan.1).verdict (last false))
-      ∙ next_same (true_verdict s choices z) (next (plan_answer M plan.0 plan.1).verdict (last false)) (next (plan_verdict M none plan.0 plan.1) (last (ltb 4095 (node_count (neat_of J t))))) last_is
+  verdict_is = assoc (first_refusal (job_checks s choices)) (first_refusal (sizes_checks M.count z)) (next (verdict_of (plan_answer M plan.0 plan.1)) (last false))
+      ∙ next_same (true_verdict s choices z) (next (verdict_of (plan_answer M plan.0 plan.1)) (last false)) (next (plan_verdict M none plan.0 plan.1) (last (ltb 4095 (node_count (neat_of J t))))) last_is
 
   pub true_new : TruePromises s choices z plan old new r
   unfolding sizes_of record_of sizes_checks true_sizes.sizes_checks
   true_new = record {
-    answers = answers_by true_form (λ b. refl) (λ x. refl) (true_plan_verdict s choices z plan old) (node_count (neat_of J t), used_of J t) r
-        (p.answers ∙ ap (λ v. by_check v (true_answer.Written (node_count (neat_of J t)) (used_of J t).0 (used_of J t).1) true_answer.Refused) verdict_is);
+    answers = answers_by true_values (true_plan_verdict s choices z plan old) (today.report_of (node_count (neat_of J t)) (used_of J t)) r
+        (p.answers ∙ ap (λ v. answer_by v (today.report_of (node_count (neat_of J t)) (used_of J t))) verdict_is);
     arrays = (p.memory.kinds ∙ ap (λ v. list_after v (kinds_of (neat_of J t)) old.0) verdict_is, p.memory.operands ∙ ap (λ v. list_after v (operands_of (neat_of J t)) old.1) verdict_is);
     judged = checks_new (true_verdict s choices z) M few none plan.0 plan.1;
     fits = λ h. p.fits (verdict_is ∙ h);

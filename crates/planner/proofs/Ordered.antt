@@ -1,13 +1,10 @@
 -- The plates that a whole order needs and the bound by multipliers: what the inner call promises gives its instance.
-use Rattle.planner.proofs.Prelude.{◌≡◌, refl, sym, ◌∙◌, ap, ap₂, Bool, true, false, List, ℕ, ◌+◌, ◌-◌, ◌/◌, ltb, eqb, Length, Width, only, Job, widened, capacity, by_kind, InRange, range_solid, normal_listed, by_check, next, first_refusal, Passed, Choices, block_job, weight_in, passed_both, accepted_in_range, position_count, words_needed, fewest, BoundAnswer, Memory, accept_verdict, bound_held, PlatesReport, PlatesAnswer, LagrangianReport, LagrangianAnswer, lowered_range, one_weight, bound_of, storage_checks, Relaxes, NotHeldBeside, NoFewer, CheaperNotHeld, worth_at, order_worth, plates_for, plates_form, NeededPromises, multiplier_in, lowered_job, multiplied_verdict, AllAccepted, lagrangian_form, as_lagrangian, LagrangianPromises, Fewest}
+use Rattle.planner.proofs.Prelude.{◌≡◌, refl, sym, ◌∙◌, ap, ap₂, Bool, true, false, List, ℕ, ◌+◌, ◌-◌, ◌/◌, ltb, eqb, Length, Width, only, Job, widened, capacity, by_kind, InRange, range_solid, normal_listed, by_check, next, first_refusal, Choices, block_job, weight_in, passed_both, accepted_in_range, position_count, words_needed, fewest, Memory, accept_verdict, bound_held, PlatesReport, LagrangianReport, lowered_range, one_weight, bound_of, storage_checks, Relaxes, NotHeldBeside, NoFewer, CheaperNotHeld, worth_at, order_worth, plates_for, plates_values, NeededPromises, multiplier_in, lowered_job, multiplied_verdict, AllAccepted, lagrangian_values, as_lagrangian, LagrangianPromises, Fewest, Ok, Err, passed, Answer, BoundReport}
 use Rattle.cutting.specs.Relaxation as relaxation
 use Rattle.cutting.specs.Job as old_job
 use Rattle.orders.specs.Orders as orders
-use Rattle.promises.specs.declared.BoundAnswer.TheVariants as bound_answer
 use Rattle.bound.specs.Bound as bound
-use Rattle.promises.specs.declared.PlatesAnswer.TheVariants as plates_answer
 use Rattle.plates_needed.specs.Plates as needed
-use Rattle.promises.specs.declared.LagrangianAnswer.TheVariants as lagrangian_answer
 use Rattle.multipliers.specs.Multipliers as multipliers
 use Rattle.planner.proofs.Figures.{recursion, figures_most, floors}
 use Rattle.planner.proofs.Held.{one_sound, bound_is, one_held}
@@ -39,7 +36,7 @@ types_new J h k rect cost bounds n type known less =
     let u = h k rect cost (λ r l. ((λ t g d. (bounds r l).0 t g tt d), (λ m p t g d. (bounds r l).1 m p t g tt d))) n type known less in
     record { whole = u.whole; finer = u.finer }
 
-module _ (s : List ℕ) (choices : Choices) (ws : List ℕ) (other : ℕ) (m n : Memory) (r : PlatesAnswer) (p : needed.NeededPromises s choices ws other m n r) where
+module _ (s : List ℕ) (choices : Choices) (ws : List ℕ) (other : ℕ) (m n : Memory) (r : Answer PlatesReport) (p : needed.NeededPromises s choices ws other m n r) where
   abbrev J : Job
   J = block_job s choices
 
@@ -60,14 +57,14 @@ module _ (s : List ℕ) (choices : Choices) (ws : List ℕ) (other : ℕ) (m n :
   needed_new = record {
     bound = bound.bound_answer s choices ws m;
     bounds = bound_from s choices ws m n (bound.bound_answer s choices ws m) refl p.memory (λ a. bound_held J weight (accepted_in_range s choices ws a));
-    answers = answers_by plates_form (λ b. refl) (λ x. refl) (next (accept_verdict s choices ws) (first_refusal (storage_checks J (one_weight weight J) m))) reported r
-        (p.answers ∙ ap₂ (λ v b. by_check (next (accept_verdict s choices ws) v) (plates_answer.Answered b) plates_answer.Refused) (one_stored s choices ws m) report_is);
+    answers = answers_by plates_values (next (accept_verdict s choices ws) (first_refusal (storage_checks J (one_weight weight J) m))) reported r
+        (p.answers ∙ ap₂ (λ v b. by_check (next (accept_verdict s choices ws) v) (Ok b) Err) (one_stored s choices ws m) report_is);
     fewest = rw (plates_is (bound_of J weight) (order_worth J - other)) (fewest_new _ _ _ (fewest (bound_of J weight) (order_worth J - other)));
     no_fewer = λ a. rw⁻¹ count_is (fewer_new J (orders.plates_needed J (old_job.bound_of J weight) other) other (p.accepted a).no_fewer);
     types = types_new J p.types;
   }
 
-module _ (s : List ℕ) (choices : Choices) (ws ms : List ℕ) (m n : Memory) (r : LagrangianAnswer) (p : multipliers.LagrangianPromises s choices ws ms m n r) where
+module _ (s : List ℕ) (choices : Choices) (ws ms : List ℕ) (m n : Memory) (r : Answer LagrangianReport) (p : multipliers.LagrangianPromises s choices ws ms m n r) where
   abbrev K : Job
   K = block_job s choices
 
@@ -82,20 +79,20 @@ module _ (s : List ℕ) (choices : Choices) (ws ms : List ℕ) (m n : Memory) (r
   range a = lowered_range K (multiplier_in ms) (accepted_in_range s choices ws (passed_both (accept_verdict s choices ws) (first_refusal (multipliers.multiplier_checks K.count ms)) a).0)
 
   low_stored : first_refusal (bound.memory_checks (widened L) (capacity L by) m) ≡ first_refusal (storage_checks L (one_weight by L) m)
-  low_stored = stored_is Passed L (one_weight by L) m m (words_needed (widened L) (capacity L by)) (one_words L by)
+  low_stored = stored_is passed L (one_weight by L) m m (words_needed (widened L) (capacity L by)) (one_words L by)
 
   -- a report with this bound of the lowered job
   abbrev low_report : ℕ → LagrangianReport
   low_report b = record { lagrangian = b + worth_at K (multiplier_in ms); lowered = record { bound = b; capacity = capacity L by; length_count = position_count (widened L) Length; columns = position_count (widened L) Width } }
 
-  as_is : (b : BoundAnswer) → multipliers.as_lagrangian b ≡ as_lagrangian b
-  as_is (bound_answer.Answered b) = refl
-  as_is (bound_answer.Refused x) = refl
+  as_is : (b : Answer BoundReport) → multipliers.as_lagrangian b ≡ as_lagrangian b
+  as_is (Ok b) = refl
+  as_is (Err x) = refl
 
   pub lagrangian_new : LagrangianPromises s choices ws ms m n r
   lagrangian_new = record {
-    answers = answers_by lagrangian_form (λ b. refl) (λ x. refl) (next (multiplied_verdict s choices ws ms) (first_refusal (storage_checks L (one_weight by L) m))) (low_report (bound_of L by)) r
-        (p.answers ∙ ap₂ (λ v b. by_check (next (multiplied_verdict s choices ws ms) v) (lagrangian_answer.Answered (low_report b)) lagrangian_answer.Refused) low_stored (sym (bound_is L by)));
+    answers = answers_by lagrangian_values (next (multiplied_verdict s choices ws ms) (first_refusal (storage_checks L (one_weight by L) m))) (low_report (bound_of L by)) r
+        (p.answers ∙ ap₂ (λ v b. by_check (next (multiplied_verdict s choices ws ms) v) (Ok (low_report b)) Err) low_stored (sym (bound_is L by)));
     fills = record {
       memory = one_leaves (multiplied_verdict s choices ws ms) L by m n p.memory;
       normal = normal_listed (widened L);

@@ -7,8 +7,7 @@ pub use lib.Dec.{eqb, ltb}
 pub use lib.ListN.{drop, get_or, length, replicate, set, take, take-append-drop}
 pub use lib.Seq.{ext_get_or, take_all}
 pub use mathlib.Core.Bool.{Bool, ◌&&◌, ◌||◌, false, not, true}
-pub use mathlib.Core.List.Memᴰ.{head as List·Memᴰ·head}
-pub use mathlib.Core.List.Memᴰ.{tail as List·Memᴰ·tail}
+pub use mathlib.Core.List.Memᴰ.{head as List·Memᴰ·head, tail as List·Memᴰ·tail}
 pub use mathlib.Core.List.{List, Memᴰ as List-as-Memᴰ, [], ◌++◌, ◌∷◌, append-nil, map}
 pub use mathlib.Core.Option.{Option, none, some}
 pub use mathlib.Core.Path.{◌∙◌, ◌≡◌, ap, ap₂, refl, subst, sym}
@@ -18,7 +17,6 @@ pub use native.Mathlib.Omega.{arith}
 pub use Rattle.bound.proofs.Calls.{exact_by}
 pub use Rattle.bound.proofs.Holds.{bound_held}
 pub use Rattle.bound.specs.Bound.{BoundHolds, Memory, accept_verdict, block_report, list_check, memory_checks}
-pub use Rattle.certificate.proofs.Comparison.{said_by}
 pub use Rattle.certificate.proofs.Promises.{compares, plans_judged}
 pub use Rattle.cutting.proofs.AnyKinds.{any_on, ordered_on}
 pub use Rattle.cutting.proofs.Bound.{bound_ceiling, capacity_less, demands_weight, share_figure}
@@ -83,60 +81,45 @@ pub use Rattle.plan.proofs.Walk.{nodes_length}
 pub use Rattle.plan.proofs.Whole.{verdict_is, whole_counts, whole_passes}
 pub use Rattle.plan.specs.Calls.{BlockPasses, JobPasses, arrays_answer, arrays_before_idle, arrays_said, block_answer, block_before_idle, block_checks, block_said, plan_kinds, plan_operands, plan_outcome}
 unfoldable pub use Rattle.plan.specs.Calls.{plan_block_answer}
-pub use Rattle.plan.specs.Plan.{empty_report, left_check, node_checks, node_of, nodes_in, only_tree, parts, passed, plan_answer, plan_checks, proceed, report_after, tree_passed, tree_stopped}
+pub use Rattle.plan.specs.Plan.{empty_report, left_check, node_checks, node_of, nodes_in, only_tree, parts, plan_answer, plan_checks, proceed, report_after, tree_passed}
 unfoldable pub use Rattle.plan.specs.Plan.{walk_answer}
 pub use Rattle.plan.specs.Trees.{ChecksPlan, DrawnAs, PlanOf, Reports, first_tree, tree_in, trees_in}
-pub use Rattle.plan.specs.declared.TreeAnswer.{TreeAnswer}
+pub use Rattle.plan.specs.declared.TreeWalk.{TreeWalk}
 pub use Rattle.promises.specs.Block.{KerfNoneRead, saw_job, saw_record, with_full_demand, with_old_block}
-pub use Rattle.promises.specs.Call.{Answers, Arrays, ArraysLeft, Certifies, Fills, Form, Leaves, Writes, lent, list_after, nodes_check, storage_checks}
-pub use Rattle.promises.specs.Calls.{BlockPromises, BoundPromises, CertifyPromises, CheckPromises, Checks, ExactPromises, NeatPlan, NeatPromises, PlanPromises, ReadPromises, StagedCheckPromises, StagedPromises, TwoPromises, WritePromises, accepts_two, bound_form, bound_report, certificate_form, certificate_outcome, compared, exact_form, job_form, limit_checks, neat_form, plan_form, reads, short, staged_form, two_form, write_form}
+pub use Rattle.promises.specs.Call.{Answers, Arrays, ArraysLeft, Certifies, Fills, Leaves, Writes, lent, list_after, nodes_check, storage_checks}
+pub use Rattle.promises.specs.Calls.{BlockPromises, BoundPromises, CertifyPromises, CheckPromises, Checks, ExactPromises, NeatPlan, NeatPromises, PlanPromises, ReadPromises, StagedCheckPromises, StagedPromises, TwoPromises, WritePromises, accepts_two, bound_values, bound_report, certificate_values, certify_verdict, compared, exact_values, job_values, limit_checks, neat_values, plan_values, reads, short, staged_values, two_values, write_values}
 pub use Rattle.promises.specs.Check.{Judges, plan_verdict, walk_verdict, walked}
 unfoldable pub use Rattle.promises.specs.Check.{tree_walk}
 pub use Rattle.promises.specs.Figure.{choice_tree, divided, step}
 unfoldable pub use Rattle.promises.specs.Figure.{after, figure, first_pair, plan_choice, plan_deep, plan_of, single}
 pub use Rattle.promises.specs.Job.{WithinLimit}
-pub use Rattle.promises.specs.Orders.{AllAccepted, CheaperNotHeld, Fewest, LagrangianPromises, NeededPromises, NoFewer, NotHeldBeside, OfPlans, as_lagrangian, lagrangian_form, lagrangian_of, lowered_job, multiplied_verdict, multiplier_in, order_worth, plates_for, plates_form, worth_at}
+pub use Rattle.promises.specs.Orders.{AllAccepted, CheaperNotHeld, Fewest, LagrangianPromises, NeededPromises, NoFewer, NotHeldBeside, OfPlans, as_lagrangian, lagrangian_values, lagrangian_of, lowered_job, multiplied_verdict, multiplier_in, order_worth, plates_for, plates_values, worth_at}
 pub use Rattle.promises.specs.Plan.{kind_of, operand_of, stage_checks, tree_report}
 unfoldable pub use Rattle.promises.specs.Plan.{sawdust_area, trim_area, waste_area}
-pub use Rattle.promises.specs.Rack.{PlansOf, PlatesPromises, Rack, RackChecks, RackPromises, paid, plate_at, plates, rack_form, rack_of, rack_verdict, rack_walked, total_checks}
+pub use Rattle.promises.specs.Rack.{PlansOf, PlatesPromises, Rack, RackChecks, RackPromises, paid, plate_at, plates, profits_values, rack_of, rack_verdict, rack_walked, total_checks}
 unfoldable pub use Rattle.promises.specs.Rack.{rack_checks, rack_walk}
-pub use Rattle.promises.specs.Refusals.{line_of, outcome_by, refused_as}
-pub use Rattle.promises.specs.Rounds.{FindPromises, LeastMet, Lent, RoundHolds, RoundsLeave, StopRules, answer_of, bound_at, found_form, last_round, plan_copies, rounds_run}
+pub use Rattle.promises.specs.Refusals.{line_of, outcome_by, refused_as, Checked, Answer, passed, answer_by, verdict_of, outcome_of}
+pub use Rattle.promises.specs.Rounds.{FindPromises, LeastMet, Lent, RoundHolds, RoundsLeave, StopRules, bound_at, found_values, last_round, plan_copies, rounds_run}
 unfoldable pub use Rattle.promises.specs.Rounds.{best_round, found, last_from, last_here, round_verdict, squares, weight_at, within}
-pub use Rattle.promises.specs.Saw.{HandsBack, NeverSix, PartPromises, SawPromises, SawReadPromises, node_part, part_if, saw_form, saw_verdict, without_profit}
+pub use Rattle.promises.specs.Saw.{HandsBack, NeverSix, PartPromises, SawPromises, SawReadPromises, node_part, part_if, saw_values, saw_verdict, without_profit}
 pub use Rattle.promises.specs.Systems.{BlockRecursion, FiguresMost, Floors, Holds, NoneAbove, NoneFiner, PlanFollows, Recursion, System, below_cut, bound_in, bound_of, bound_plan, one_weight, optimum, optimum_plan, remaining_copies, table_words, two_weights, within_stages}
-pub use Rattle.promises.specs.True.{ModelPromises, NoneBetter, Relaxes, StandsFor, TruePlan, TruePromises, block_true_job, true_form, true_plan_verdict, true_verdict}
-pub use Rattle.promises.specs.declared.BoundAnswer.{BoundAnswer}
+pub use Rattle.promises.specs.True.{ModelPromises, NoneBetter, Relaxes, StandsFor, TruePlan, TruePromises, block_true_job, true_values, true_plan_verdict, true_verdict}
 pub use Rattle.promises.specs.declared.BoundReport.{BoundReport}
 pub use Rattle.promises.specs.declared.Certificate.{Certificate}
-pub use Rattle.promises.specs.declared.Checked.{Checked}
-pub use Rattle.promises.specs.declared.Checked.TheVariants.{Passed, Refused}
 pub use Rattle.promises.specs.declared.Choices.{Choices}
 pub use Rattle.promises.specs.declared.Direction.{Direction}
 pub use Rattle.promises.specs.declared.Direction.TheVariants.{Length, Width}
-pub use Rattle.promises.specs.declared.ExactAnswer.{ExactAnswer}
 pub use Rattle.promises.specs.declared.ExactReport.{ExactReport}
-pub use Rattle.promises.specs.declared.JobAnswer.{JobAnswer}
 pub use Rattle.promises.specs.declared.JobRecord.{JobRecord}
-pub use Rattle.promises.specs.declared.LagrangianAnswer.{LagrangianAnswer}
 pub use Rattle.promises.specs.declared.LagrangianReport.{LagrangianReport}
-pub use Rattle.promises.specs.declared.NeatAnswer.{NeatAnswer}
 pub use Rattle.promises.specs.declared.Part.{Part}
-pub use Rattle.promises.specs.declared.PlanAnswer.{PlanAnswer}
 pub use Rattle.promises.specs.declared.Plate.{Plate}
-pub use Rattle.promises.specs.declared.PlatesAnswer.{PlatesAnswer}
 pub use Rattle.promises.specs.declared.PlatesReport.{PlatesReport}
-pub use Rattle.promises.specs.declared.RackAnswer.{RackAnswer}
 pub use Rattle.promises.specs.declared.Refusal.{Refusal}
 pub use Rattle.promises.specs.declared.Refusal.TheVariants.{ListShort, NodeLeft, NodeMissing, PlanLong, RackDemand, TableShort, TrueMisfit}
 pub use Rattle.promises.specs.declared.Report.{Report}
-pub use Rattle.promises.specs.declared.SawAnswer.{SawAnswer}
-pub use Rattle.promises.specs.declared.StagedAnswer.{StagedAnswer}
-pub use Rattle.promises.specs.declared.TruePlanAnswer.{TruePlanAnswer}
-pub use Rattle.promises.specs.declared.TwoAnswer.{TwoAnswer}
 pub use Rattle.promises.specs.declared.TwoReport.{TwoReport}
 pub use Rattle.promises.specs.declared.WeightsFound.{WeightsFound}
-pub use Rattle.promises.specs.declared.WriteAnswer.{WriteAnswer}
 pub use Rattle.promises.specs.declared.WriteReport.{WriteReport}
 pub use Rattle.rack.proofs.Before.{before_passed}
 pub use Rattle.rack.proofs.Calls.{order_few, plates_met}
@@ -163,3 +146,9 @@ pub use Rattle.table.specs.Two.{TwoFigures, two_words}
 pub use Rattle.two_bound.specs.Two.{TwoHolds}
 pub use Rattle.weight_steps.proofs.Sums.{any_more, any_none, none_passes}
 pub use Rattle.weight_steps.specs.Step.{distance, factor, pick_number, stepped, weight_step}
+pub use Rattle.std.proofs.Common.{Ok, Err}
+pub use Rattle.std.specs.Result.{ForOk, result_unwrap_or}
+pub use Rattle.refusal.proofs.Results.{said_by, value_answered, refusal_answered}
+pub use Rattle.promises.specs.declared.SawReport.{SawReport}
+pub use Rattle.promises.specs.declared.StagedReport.{StagedReport}
+pub use Rattle.promises.specs.declared.TrueReport.{TrueReport}

@@ -1,12 +1,10 @@
 -- The writing call and the exact call: what the inner call promises gives its instance.
-use Rattle.planner.proofs.Prelude.{◌≡◌, refl, sym, ◌∙◌, ap, ap₂, none, List, [], ◌∷◌, ℕ, arith, Length, Width, Tree, Piece, kinds_of, operands_of, node_count, Job, widened, at_full_demand, capacity, by_kind, SolidKinds, by_copies, full_state, state_count, range_solid, by_check, next, first_refusal, Refusal, Checked, Passed, Refused, Choices, job_checks, block_job, weight_in, append_passed, passed_both, read_in_range, accepted_in_range, position_count, words_needed, Memory, accept_verdict, bound_held, WriteReport, WriteAnswer, ExactReport, ExactAnswer, one_weight, remaining_copies, bound_of, bound_plan, optimum, optimum_plan, Arrays, storage_checks, nodes_check, write_form, exact_form, short, WritePromises, ExactPromises, plan_verdict}
+use Rattle.planner.proofs.Prelude.{◌≡◌, refl, sym, ◌∙◌, ap, ap₂, none, List, [], ◌∷◌, ℕ, arith, Length, Width, Tree, Piece, kinds_of, operands_of, node_count, Job, widened, at_full_demand, capacity, by_kind, SolidKinds, by_copies, full_state, state_count, range_solid, by_check, next, first_refusal, Refusal, Choices, job_checks, block_job, weight_in, append_passed, passed_both, read_in_range, accepted_in_range, position_count, words_needed, Memory, accept_verdict, bound_held, WriteReport, ExactReport, one_weight, remaining_copies, bound_of, bound_plan, optimum, optimum_plan, Arrays, storage_checks, nodes_check, write_values, exact_values, short, WritePromises, ExactPromises, plan_verdict, Ok, Err, passed, Checked, Answer}
 use Rattle.cutting.specs.Job as old
 use Rattle.cutting.specs.Exact as old_exact
 use Rattle.bound.specs.Bound.{list_after}
 use Rattle.bound.specs.Bound as bound
-use Rattle.promises.specs.declared.WriteAnswer.TheVariants as write_answer
 use Rattle.writer.specs.Write as writer
-use Rattle.promises.specs.declared.ExactAnswer.TheVariants as exact_answer
 use Rattle.exact.specs.Exact as exact
 use Rattle.planner.proofs.Figures.{recursion, figures_most, floors}
 use Rattle.planner.proofs.Held.{copies_sound, bound_is, two_is, optimum_is, optimum_held}
@@ -17,16 +15,16 @@ use Rattle.planner.proofs.Checks.{verdict_none}
 use Rattle.promises.specs.Plan.{PlanOf}
 
 -- two trees that are the same where a verdict passes give the same to what reads them only there
-unless : {B : Type 0} (v : Checked) (t u : Tree Piece) → (v ≡ Passed → t ≡ u) → (f : Checked → Tree Piece → B) → ((x : Refusal) → f (Refused x) t ≡ f (Refused x) u) → f v t ≡ f v u
+unless : {B : Type 0} (v : Checked) (t u : Tree Piece) → (v ≡ passed → t ≡ u) → (f : Checked → Tree Piece → B) → ((x : Refusal) → f (Err x) t ≡ f (Err x) u) → f v t ≡ f v u
 unless v t u e f g = go v refl
   where
     go : (w : Checked) → v ≡ w → f w t ≡ f w u
-    go Passed h = ap (f Passed) (e h)
-    go (Refused x) h = g x
+    go (Ok _) h = ap (f passed) (e h)
+    go (Err x) h = g x
 
 -- a plan that passes, for a tree that is the same
-moved : (J : Job) (t u : Tree Piece) → t ≡ u → PlanOf J t (kinds_of t) (operands_of t) × (plan_verdict J none (kinds_of t) (operands_of t) ≡ Passed)
-    → PlanOf J u (kinds_of u) (operands_of u) × (plan_verdict J none (kinds_of u) (operands_of u) ≡ Passed)
+moved : (J : Job) (t u : Tree Piece) → t ≡ u → PlanOf J t (kinds_of t) (operands_of t) × (plan_verdict J none (kinds_of t) (operands_of t) ≡ passed)
+    → PlanOf J u (kinds_of u) (operands_of u) × (plan_verdict J none (kinds_of u) (operands_of u) ≡ passed)
 moved J t u e p = rw⁻¹ e p
 
 module _ (s : List ℕ) (choices : Choices) (ws : List ℕ) (m : Memory) (plan : Arrays) where
@@ -39,8 +37,8 @@ module _ (s : List ℕ) (choices : Choices) (ws : List ℕ) (m : Memory) (plan :
   abbrev report_at : ℕ → Tree Piece → WriteReport
   report_at n t = record { bound = n; capacity = capacity J weight; length_count = position_count (widened J) Length; columns = position_count (widened J) Width; nodes = node_count t }
 
-  module _ (written : Arrays) (n : Memory) (r : WriteAnswer) (p : writer.WritePromises s choices ws m n plan.0 plan.1 written.0 written.1 r) where
-    same : accept_verdict s choices ws ≡ Passed → old.bound_plan J weight ≡ bound_plan J weight
+  module _ (written : Arrays) (n : Memory) (r : Answer WriteReport) (p : writer.WritePromises s choices ws m n plan.0 plan.1 written.0 written.1 r) where
+    same : accept_verdict s choices ws ≡ passed → old.bound_plan J weight ≡ bound_plan J weight
     same a = sym (plan_is J (by_kind weight) (p.choice a).0 (widened J).plate.0 (widened J).plate.1 (capacity J weight) (omega arith) (omega arith))
 
     -- what the arrays hold, by a verdict before the storage's and a plan
@@ -49,9 +47,9 @@ module _ (s : List ℕ) (choices : Choices) (ws : List ℕ) (m : Memory) (plan :
 
     pub write_new : WritePromises s choices ws m n plan written r
     write_new = record {
-      answers = answers_by write_form (λ b. refl) (λ x. refl) (after (accept_verdict s choices ws) (bound_plan J weight)) (report_at (bound_of J weight) (bound_plan J weight)) r
-          (p.answers ∙ (ap₂ (λ v b. by_check (next (next (accept_verdict s choices ws) v) (first_refusal (nodes_check (old.bound_plan J weight) plan ∷ []))) (write_answer.Written (report_at b (old.bound_plan J weight))) write_answer.Refused) (one_stored s choices ws m) (sym (bound_is J weight))
-          ∙ unless (accept_verdict s choices ws) (old.bound_plan J weight) (bound_plan J weight) same (λ v t. by_check (after v t) (write_answer.Written (report_at (bound_of J weight) t)) write_answer.Refused) (λ x. refl)));
+      answers = answers_by write_values (after (accept_verdict s choices ws) (bound_plan J weight)) (report_at (bound_of J weight) (bound_plan J weight)) r
+          (p.answers ∙ (ap₂ (λ v b. by_check (next (next (accept_verdict s choices ws) v) (first_refusal (nodes_check (old.bound_plan J weight) plan ∷ []))) (Ok (report_at b (old.bound_plan J weight))) Err) (one_stored s choices ws m) (sym (bound_is J weight))
+          ∙ unless (accept_verdict s choices ws) (old.bound_plan J weight) (bound_plan J weight) same (λ v t. by_check (after v t) (Ok (report_at (bound_of J weight) t)) Err) (λ x. refl)));
       fills = one_fills s choices ws m (accept_verdict s choices ws) n p.memory (λ a. bound_held J weight (accepted_in_range s choices ws a));
       writes = record {
         arrays = (
@@ -74,34 +72,34 @@ module _ (s : List ℕ) (choices : Choices) (m : Memory) (plan : Arrays) where
   exact_at n t = record { optimum = n; states = state_count K; length_count = position_count (widened K) Length; columns = position_count (widened K) Width; nodes = node_count t }
 
   copies_stored : first_refusal (bound.memory_checks (widened K) (full_state K) m) ≡ first_refusal (storage_checks K (remaining_copies K) m)
-  copies_stored = stored_is Passed K (remaining_copies K) m m (words_needed (widened K) (full_state K)) (copies_words K)
+  copies_stored = stored_is passed K (remaining_copies K) m m (words_needed (widened K) (full_state K)) (copies_words K)
 
-  module _ (written : Arrays) (n : Memory) (r : ExactAnswer) (p : exact.ExactPromises s choices m n plan.0 plan.1 written.0 written.1 r) where
-    exact_same : exact.short_verdict s choices ≡ Passed → old_exact.optimum_plan K ≡ optimum_plan K
+  module _ (written : Arrays) (n : Memory) (r : Answer ExactReport) (p : exact.ExactPromises s choices m n plan.0 plan.1 written.0 written.1 r) where
+    exact_same : exact.short_verdict s choices ≡ passed → old_exact.optimum_plan K ≡ optimum_plan K
     exact_same a = sym (plan_is K (by_copies K) (p.planned a).choice (widened K).plate.0 (widened K).plate.1 (full_state K) (omega arith) (omega arith))
 
     abbrev exact_after : Checked → Tree Piece → Checked
     exact_after v t = next (next v (first_refusal (storage_checks K (remaining_copies K) m))) (first_refusal (nodes_check t plan ∷ []))
 
     -- an answer with a report was of a short order
-    behind : (v : Checked) (b b' : ExactReport) → exact_answer.Answered b ≡ by_check v (exact_answer.Answered b') exact_answer.Refused → v ≡ Passed
-    behind Passed b b' e = refl
-    behind (Refused x) b b' e = absurd (let z : ◌≡◌ {A = ℕ} 0 1 = cc in omega arith)
+    behind : (v : Checked) (b b' : ExactReport) → Ok b ≡ by_check v (Ok b') Err → v ≡ passed
+    behind (Ok _) b b' e = refl
+    behind (Err x) b b' e = absurd (let z : ◌≡◌ {A = ℕ} 0 1 = cc in omega arith)
 
-    answered : r ≡ by_check (exact_after (short s choices) (optimum_plan K)) (exact_answer.Answered (exact_at (optimum K) (optimum_plan K))) exact_answer.Refused
-    answered = p.answers ∙ (ap₂ (λ v b. by_check (next (next (short s choices) v) (first_refusal (nodes_check (old_exact.optimum_plan K) plan ∷ []))) (exact_answer.Answered (exact_at b (old_exact.optimum_plan K))) exact_answer.Refused) copies_stored (sym (optimum_is K))
-        ∙ unless (short s choices) (old_exact.optimum_plan K) (optimum_plan K) exact_same (λ v t. by_check (exact_after v t) (exact_answer.Answered (exact_at (optimum K) t)) exact_answer.Refused) (λ x. refl))
+    answered : r ≡ by_check (exact_after (short s choices) (optimum_plan K)) (Ok (exact_at (optimum K) (optimum_plan K))) Err
+    answered = p.answers ∙ (ap₂ (λ v b. by_check (next (next (short s choices) v) (first_refusal (nodes_check (old_exact.optimum_plan K) plan ∷ []))) (Ok (exact_at b (old_exact.optimum_plan K))) Err) copies_stored (sym (optimum_is K))
+        ∙ unless (short s choices) (old_exact.optimum_plan K) (optimum_plan K) exact_same (λ v t. by_check (exact_after v t) (Ok (exact_at (optimum K) t)) Err) (λ x. refl))
 
-    is_short : (b : ExactReport) → r ≡ exact_answer.Answered b → short s choices ≡ Passed
+    is_short : (b : ExactReport) → r ≡ Ok b → short s choices ≡ passed
     is_short b e = (passed_both (short s choices) (first_refusal (storage_checks K (remaining_copies K) m)) (passed_both (next (short s choices) (first_refusal (storage_checks K (remaining_copies K) m))) (first_refusal (nodes_check (optimum_plan K) plan ∷ []))
         (behind (exact_after (short s choices) (optimum_plan K)) b (exact_at (optimum K) (optimum_plan K)) (sym e ∙ answered))).0).0
 
-    solid : short s choices ≡ Passed → SolidKinds K
+    solid : short s choices ≡ passed → SolidKinds K
     solid a = range_solid K (read_in_range s choices (append_passed (job_checks s choices) (exact.state_check K ∷ []) a).0)
 
     pub exact_new : ExactPromises s choices m n plan written r
     exact_new = record {
-      answers = answers_by exact_form (λ b. refl) (λ x. refl) (exact_after (short s choices) (optimum_plan K)) (exact_at (optimum K) (optimum_plan K)) r answered;
+      answers = answers_by exact_values (exact_after (short s choices) (optimum_plan K)) (exact_at (optimum K) (optimum_plan K)) r answered;
       fills = record {
         memory = copies_leaves (short s choices) K m n p.memory;
         normal = p.normal;

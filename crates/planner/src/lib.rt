@@ -15,34 +15,38 @@ ghost use Rattle.promises.specs.True.{ModelPromises, TruePromises};
 ghost use Rattle.promises.specs.Orders.{NeededPromises, LagrangianPromises};
 
 use promises::{
-    BoundAnswer, Certificate, Checked, Choices, ExactAnswer, JobAnswer, LagrangianAnswer,
-    NeatAnswer, PlanAnswer, PlatesAnswer, RackAnswer, SawAnswer, StagedAnswer, TruePlanAnswer,
-    TwoAnswer, WeightsFound, WriteAnswer,
+    BoundReport, Certificate, Choices, ExactReport, JobRecord, LagrangianReport, PlatesReport,
+    Refusal, Report, SawReport, StagedReport, TrueReport, TwoReport, WeightsFound, WriteReport,
 };
 
 // A job block, read or refused.
-pub fn read_job(block: &[u8], choices: Choices) -> JobAnswer
+pub fn read_job(block: &[u8], choices: Choices) -> Result<JobRecord, Refusal>
     ensures { ReadPromises block.now choices result }
 {
     job::read_job(block, choices)
 }
 
 // An old job block, whatever the choices say of it; its kerf is 0.
-pub fn read_old_job(block: &[u8], choices: Choices) -> JobAnswer
+pub fn read_old_job(block: &[u8], choices: Choices) -> Result<JobRecord, Refusal>
     ensures { ReadPromises block.now (with_old_block choices) result }
 {
     job::read_old_job(block, choices)
 }
 
 // A plan's arrays checked for a job block.
-pub fn check_plan(block: &[u8], choices: Choices, kinds: &[u8], operands: &[u16]) -> PlanAnswer
+pub fn check_plan(
+    block: &[u8],
+    choices: Choices,
+    kinds: &[u8],
+    operands: &[u16],
+) -> Result<Report, Refusal>
     ensures { CheckPromises block.now choices kinds.now operands.now result }
 {
     plan::check_plan(block, choices, kinds, operands)
 }
 
 // A plan block checked for a job block.
-pub fn check_plan_block(block: &[u8], choices: Choices, plan: &[u8]) -> PlanAnswer
+pub fn check_plan_block(block: &[u8], choices: Choices, plan: &[u8]) -> Result<Report, Refusal>
     ensures { BlockPromises block.now choices plan.now result }
 {
     plan::check_plan_block(block, choices, plan)
@@ -55,7 +59,7 @@ pub fn check_plan_staged(
     limit: u32,
     kinds: &[u8],
     operands: &[u16],
-) -> StagedAnswer
+) -> Result<StagedReport, Refusal>
     ensures { StagedCheckPromises block.now choices limit kinds.now operands.now result }
 {
     staged_plan::check_plan_staged(block, choices, limit, kinds, operands)
@@ -69,7 +73,7 @@ pub fn neat_plan(
     operands: &[u16],
     neat_kinds: &mut [u8],
     neat_operands: &mut [u16],
-) -> NeatAnswer
+) -> Result<u64, Refusal>
     ensures { NeatPromises block.now choices kinds.now operands.now (neat_kinds.old, neat_operands.old) (neat_kinds.new, neat_operands.new) result }
 {
     neat::neat_plan(block, choices, kinds, operands, neat_kinds, neat_operands)
@@ -83,7 +87,7 @@ pub fn bound(
     lengths: &mut [u16],
     widths: &mut [u16],
     table: &mut [u64],
-) -> BoundAnswer
+) -> Result<BoundReport, Refusal>
     ensures { BoundPromises block.now choices weights.now (lent lengths.old widths.old table.old) (lent lengths.new widths.new table.new) result }
 {
     bound::bound(block, choices, weights, lengths, widths, table)
@@ -97,7 +101,7 @@ pub fn bound_full_demand(
     lengths: &mut [u16],
     widths: &mut [u16],
     table: &mut [u64],
-) -> BoundAnswer
+) -> Result<BoundReport, Refusal>
     ensures { BoundPromises block.now (with_full_demand choices) weights.now (lent lengths.old widths.old table.old) (lent lengths.new widths.new table.new) result }
 {
     bound::bound_full_demand(block, choices, weights, lengths, widths, table)
@@ -112,7 +116,7 @@ pub fn bound_staged(
     lengths: &mut [u16],
     widths: &mut [u16],
     table: &mut [u64],
-) -> BoundAnswer
+) -> Result<BoundReport, Refusal>
     ensures { StagedPromises block.now choices weights.now limit (lent lengths.old widths.old table.old) (lent lengths.new widths.new table.new) result }
 {
     staged_bound::bound_staged(block, choices, weights, limit, lengths, widths, table)
@@ -127,7 +131,7 @@ pub fn bound_staged_full_demand(
     lengths: &mut [u16],
     widths: &mut [u16],
     table: &mut [u64],
-) -> BoundAnswer
+) -> Result<BoundReport, Refusal>
     ensures { StagedPromises block.now (with_full_demand choices) weights.now limit (lent lengths.old widths.old table.old) (lent lengths.new widths.new table.new) result }
 {
     staged_bound::bound_staged_full_demand(block, choices, weights, limit, lengths, widths, table)
@@ -142,7 +146,7 @@ pub fn bound_two(
     lengths: &mut [u16],
     widths: &mut [u16],
     table: &mut [u64],
-) -> TwoAnswer
+) -> Result<TwoReport, Refusal>
     ensures { TwoPromises block.now choices first.now second.now (lent lengths.old widths.old table.old) (lent lengths.new widths.new table.new) result }
 {
     two_bound::bound_two(block, choices, first, second, lengths, widths, table)
@@ -157,7 +161,7 @@ pub fn bound_two_full_demand(
     lengths: &mut [u16],
     widths: &mut [u16],
     table: &mut [u64],
-) -> TwoAnswer
+) -> Result<TwoReport, Refusal>
     ensures { TwoPromises block.now (with_full_demand choices) first.now second.now (lent lengths.old widths.old table.old) (lent lengths.new widths.new table.new) result }
 {
     two_bound::bound_two_full_demand(block, choices, first, second, lengths, widths, table)
@@ -172,7 +176,7 @@ pub fn bound_lagrangian(
     lengths: &mut [u16],
     widths: &mut [u16],
     table: &mut [u64],
-) -> LagrangianAnswer
+) -> Result<LagrangianReport, Refusal>
     ensures { LagrangianPromises block.now choices weights.now multipliers.now (lent lengths.old widths.old table.old) (lent lengths.new widths.new table.new) result }
 {
     multipliers::bound_lagrangian(block, choices, weights, multipliers, lengths, widths, table)
@@ -187,7 +191,7 @@ pub fn plates_needed(
     lengths: &mut [u16],
     widths: &mut [u16],
     table: &mut [u64],
-) -> PlatesAnswer
+) -> Result<PlatesReport, Refusal>
     ensures { NeededPromises block.now choices weights.now other (lent lengths.old widths.old table.old) (lent lengths.new widths.new table.new) result }
 {
     plates_needed::plates_needed(block, choices, weights, other, lengths, widths, table)
@@ -203,7 +207,7 @@ pub fn write_plan(
     table: &mut [u64],
     kinds: &mut [u8],
     operands: &mut [u16],
-) -> WriteAnswer
+) -> Result<WriteReport, Refusal>
     ensures { WritePromises block.now choices weights.now (lent lengths.old widths.old table.old) (lent lengths.new widths.new table.new) (kinds.old, operands.old) (kinds.new, operands.new) result }
 {
     writer::write_plan(
@@ -221,7 +225,7 @@ pub fn write_plan_full_demand(
     table: &mut [u64],
     kinds: &mut [u8],
     operands: &mut [u16],
-) -> WriteAnswer
+) -> Result<WriteReport, Refusal>
     ensures { WritePromises block.now (with_full_demand choices) weights.now (lent lengths.old widths.old table.old) (lent lengths.new widths.new table.new) (kinds.old, operands.old) (kinds.new, operands.new) result }
 {
     writer::write_plan_full_demand(
@@ -238,7 +242,7 @@ pub fn exact(
     table: &mut [u64],
     kinds: &mut [u8],
     operands: &mut [u16],
-) -> ExactAnswer
+) -> Result<ExactReport, Refusal>
     ensures { ExactPromises block.now choices (lent lengths.old widths.old table.old) (lent lengths.new widths.new table.new) (kinds.old, operands.old) (kinds.new, operands.new) result }
 {
     exact::exact(block, choices, lengths, widths, table, kinds, operands)
@@ -254,7 +258,7 @@ pub fn certify(
     lengths: &mut [u16],
     widths: &mut [u16],
     table: &mut [u64],
-) -> Certificate
+) -> Result<Certificate, Refusal>
     ensures { CertifyPromises none (one_weight (weight_in weights.now)) block.now choices weights.now (kinds.now, operands.now) (lent lengths.old widths.old table.old) (lent lengths.new widths.new table.new) result }
 {
     certificate::certify(
@@ -272,7 +276,7 @@ pub fn certify_full_demand(
     lengths: &mut [u16],
     widths: &mut [u16],
     table: &mut [u64],
-) -> Certificate
+) -> Result<Certificate, Refusal>
     ensures { CertifyPromises none (one_weight (weight_in weights.now)) block.now (with_full_demand choices) weights.now (kinds.now, operands.now) (lent lengths.old widths.old table.old) (lent lengths.new widths.new table.new) result }
 {
     certificate::certify_full_demand(
@@ -291,7 +295,7 @@ pub fn certify_staged(
     lengths: &mut [u16],
     widths: &mut [u16],
     table: &mut [u64],
-) -> Certificate
+) -> Result<Certificate, Refusal>
     ensures { CertifyPromises (some limit) (within_stages (weight_in weights.now) limit) block.now choices weights.now (kinds.now, operands.now) (lent lengths.old widths.old table.old) (lent lengths.new widths.new table.new) result }
 {
     staged_certificate::certify_staged(
@@ -310,7 +314,7 @@ pub fn certify_staged_full_demand(
     lengths: &mut [u16],
     widths: &mut [u16],
     table: &mut [u64],
-) -> Certificate
+) -> Result<Certificate, Refusal>
     ensures { CertifyPromises (some limit) (within_stages (weight_in weights.now) limit) block.now (with_full_demand choices) weights.now (kinds.now, operands.now) (lent lengths.old widths.old table.old) (lent lengths.new widths.new table.new) result }
 {
     staged_certificate::certify_staged_full_demand(
@@ -329,7 +333,7 @@ pub fn find_weights(
     table: &mut [u64],
     written_kinds: &mut [u8],
     written_operands: &mut [u16],
-) -> WeightsFound
+) -> Result<WeightsFound, Refusal>
     ensures { FindPromises block.now choices (kinds.now, operands.now) (lent lengths.old widths.old table.old, (written_kinds.old, written_operands.old)) (lent lengths.new widths.new table.new, (written_kinds.new, written_operands.new)) result }
 {
     rounds::find_weights(
@@ -356,7 +360,7 @@ pub fn find_weights_full_demand(
     table: &mut [u64],
     written_kinds: &mut [u8],
     written_operands: &mut [u16],
-) -> WeightsFound
+) -> Result<WeightsFound, Refusal>
     ensures { FindPromises block.now (with_full_demand choices) (kinds.now, operands.now) (lent lengths.old widths.old table.old, (written_kinds.old, written_operands.old)) (lent lengths.new widths.new table.new, (written_kinds.new, written_operands.new)) result }
 {
     rounds::find_weights_full_demand(
@@ -380,21 +384,26 @@ pub fn check_plates(
     widths: &[u16],
     kinds: &[u8],
     operands: &[u16],
-) -> RackAnswer
+) -> Result<[u64; 16], Refusal>
     ensures { PlatesPromises block.now choices (record { lengths = lengths.entry.now; widths = widths.now; kinds = kinds.now; operands = operands.now }) result }
 {
     rack::check_plates(block, choices, lengths, widths, kinds, operands)
 }
 
 // A job block as the saw reads it: no price is read.
-pub fn read_saw_job(block: &[u8], choices: Choices) -> JobAnswer
+pub fn read_saw_job(block: &[u8], choices: Choices) -> Result<JobRecord, Refusal>
     ensures { SawReadPromises block.now choices result }
 {
     saw::read_saw_job(block, choices)
 }
 
 // A plan's arrays checked by the saw, which learns no price.
-pub fn saw_check(block: &[u8], choices: Choices, kinds: &[u8], operands: &[u16]) -> SawAnswer
+pub fn saw_check(
+    block: &[u8],
+    choices: Choices,
+    kinds: &[u8],
+    operands: &[u16],
+) -> Result<SawReport, Refusal>
     ensures { SawPromises block.now choices (kinds.now, operands.now) result }
 {
     saw::saw_check(block, choices, kinds, operands)
@@ -427,7 +436,7 @@ pub fn node_operands<'a, 'b, 'c>(
 }
 
 // Whether a job block is a model of a sizes block.
-pub fn check_model(block: &[u8], choices: Choices, sizes: &[u8]) -> Checked
+pub fn check_model(block: &[u8], choices: Choices, sizes: &[u8]) -> Result<(), Refusal>
     ensures { ModelPromises block.now choices sizes.now result }
 {
     model::check_model(block, choices, sizes)
@@ -442,7 +451,7 @@ pub fn true_plan(
     operands: &[u16],
     true_kinds: &mut [u8],
     positions: &mut [u32],
-) -> TruePlanAnswer
+) -> Result<TrueReport, Refusal>
     ensures { TruePromises block.now choices sizes.now (kinds.now, operands.now) (true_kinds.old, positions.old) (true_kinds.new, positions.new) result }
 {
     true_plan::true_plan(

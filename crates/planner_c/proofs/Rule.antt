@@ -1,41 +1,45 @@
 -- The rule of every exported function: stopped, it changes nothing; called, it has an answer with the promise of the proved call, its number
 -- and its words.
-use Rattle.planner_c.proofs.Prelude.{◌≡◌, refl, ◌∙◌, ap, Bool, true, false, List, ℕ, ◌≤◌, ◌<◌, arith, ltb, length, ltb-false, lt-ltb, le-ltb, Choices, Outcome, choices_of, Words, words, InC, Gives, early_by, early}
+use Rattle.planner_c.proofs.Prelude.{◌≡◌, refl, sym, ◌∙◌, ap, ap₂, subst, Bool, true, false, List, ℕ, ◌≤◌, ◌<◌, arith, ltb, length, ltb-false, ltb-true, lt-ltb, le-ltb, Choices, Outcome, choices_of, Words, words, InC, Gives, Ok, Err, started_by, started, number_of, Stop}
+use Rattle.planner_c.specs.declared.choices.Stop.TheVariants.{Short, Unknown}
 
-module _ (n choices : ℕ) (old : List ℕ) {before : ℕ} (e : before ≡ early n (length old) choices) where
-  -- what is returned by the two tests
-  by_short : length old < n → before ≡ 100
-  by_short l = e ∙ ap (λ b. early_by b (ltb 15 choices)) (lt-ltb (length old) n l)
+module _ (n word : ℕ) (old : List ℕ) where
+  -- the call as its two tests find it
+  abbrev begun : Bool → Bool → Type 0
+  begun short unknown = started n (length old) word ≡ started_by short unknown (choices_of word)
 
-  by_unknown : n ≤ length old → 15 < choices → before ≡ 101
-  by_unknown l u = e ∙ (ap (λ b. early_by b (ltb 15 choices)) (le-ltb (length old) n l) ∙ ap (early_by false) (lt-ltb 15 choices u))
+  by_short : length old < n → started n (length old) word ≡ Err Short
+  by_short l = ap (λ b. started_by b (ltb 15 word) (choices_of word)) (lt-ltb (length old) n l)
 
-  by_none : n ≤ length old → choices ≤ 15 → before ≡ 0
-  by_none l u = e ∙ (ap (λ b. early_by b (ltb 15 choices)) (le-ltb (length old) n l) ∙ ap (early_by false) (le-ltb 15 choices u))
+  by_unknown : n ≤ length old → 15 < word → started n (length old) word ≡ Err Unknown
+  by_unknown l u = ap₂ (λ a b. started_by a b (choices_of word)) (le-ltb (length old) n l) (lt-ltb 15 word u)
+
+  by_both : n ≤ length old → word ≤ 15 → started n (length old) word ≡ Ok (choices_of word)
+  by_both l u = ap₂ (λ a b. started_by a b (choices_of word)) (le-ltb (length old) n l) (le-ltb 15 word u)
 
   -- a call that is stopped
-  pub halted : {A L : Type 0} {said : A → Outcome} {m : L} {Promise : Choices → A → Type 0} → 0 < before → InC n said (words choices old old before) m m Promise
-  halted h = record {
-    short = λ l. (by_short l, refl, refl);
-    unknown = λ l u. (by_unknown l u, refl, refl);
-    answered = λ l u. absurd (omega (arith, h, by_none l u));
+  pub halted : {A L : Type 0} {said : A → Outcome} {m : L} {Promise : Choices → A → Type 0} {number : ℕ} (s : Stop) → started n (length old) word ≡ Err s → number ≡ number_of s → InC n said (words word old old number) m m Promise
+  halted s e f = record {
+    short = λ l. (let g : ◌≡◌ {A = Stop} s Short = cc (e, by_short l) in f ∙ ap number_of g, refl, refl);
+    unknown = λ l u. (let g : ◌≡◌ {A = Stop} s Unknown = cc (e, by_unknown l u) in f ∙ ap number_of g, refl, refl);
+    answered = λ l u. cc (e, by_both l u);
   }
 
   -- a call that goes on has its words
-  pub enough : before ≤ 0 → n ≤ length old
-  enough h = go (ltb (length old) n) refl (ltb 15 choices) e
+  pub enough : {c : Choices} → started n (length old) word ≡ Ok c → n ≤ length old
+  enough e = go (ltb (length old) n) refl e
     where
-      go : (short : Bool) → ltb (length old) n ≡ short → (unknown : Bool) → before ≡ early_by short unknown → n ≤ length old
-      go true s unknown e = absurd (omega (arith, e, h))
-      go false s unknown e = ltb-false (length old) n s
+      go : (short : Bool) → ltb (length old) n ≡ short → {c : Choices} → started_by short (ltb 15 word) (choices_of word) ≡ Ok c → n ≤ length old
+      go true s e = cc
+      go false s e = ltb-false (length old) n s
 
   -- and its promise, number and words
-  pub met : {A L : Type 0} {said : A → Outcome} {m m' : L} {Promise : Choices → A → Type 0} {number : ℕ} {new : List ℕ} → before ≤ 0 → (r : A) → Promise (choices_of choices) r → Gives (said r) number old new
-      → InC n said (words choices old new number) m m' Promise
-  met h r p g = record {
-    short = λ l. absurd (omega (arith, h, by_short l));
-    unknown = λ l u. absurd (omega (arith, h, by_unknown l u));
-    answered = λ l u. (r, p, g.0, g.1);
+  pub met : {A L : Type 0} {said : A → Outcome} {m m' : L} {Promise : Choices → A → Type 0} {number : ℕ} {new : List ℕ} {c : Choices} → started n (length old) word ≡ Ok c → (r : A) → Promise c r → Gives (said r) number old new
+      → InC n said (words word old new number) m m' Promise
+  met {Promise = Promise} e r p g = record {
+    short = λ l. cc (e, by_short l);
+    unknown = λ l u. cc (e, by_unknown l u);
+    answered = λ l u. (let f : ◌≡◌ {A = Choices} _ (choices_of word) = cc (e, by_both l u) in (r, subst (λ c. Promise c r) f p, g.0, g.1));
   }
 
 -- a call with another promise that the first gives

@@ -17,13 +17,12 @@ pub extern "C" fn planner_bound(
 ) -> u32
     ensures { BoundC (words choices answer.old answer.new result) block.now weights.now (lent lengths.old widths.old table.old) (lent lengths.new widths.new table.new) }
 {
-    let stop = choices::early(answer.len(), 4, choices);
-    if 0 < stop {
-        return stop;
-    }
-    let c = choices::choices_of(choices);
+    let c = match choices::start(answer.len(), 4, choices) {
+        Ok(c) => c,
+        Err(stop) => return u32::from(stop),
+    };
     let a = planner::bound(block, c, weights, lengths, widths, table);
-    answer_words::put_bound(a, answer)
+    answer_words::put_answer(&a, answer)
 }
 
 // The certificate of a plan for a job block and weights. The answer has 3 words: the gap, which is 0 for a best plan, the bound and the
@@ -42,13 +41,12 @@ pub extern "C" fn planner_certify(
 ) -> u32
     ensures { CertifyC (words choices answer.old answer.new result) block.now weights.now (kinds.now, operands.now) (lent lengths.old widths.old table.old) (lent lengths.new widths.new table.new) }
 {
-    let stop = choices::early(answer.len(), 3, choices);
-    if 0 < stop {
-        return stop;
-    }
-    let c = choices::choices_of(choices);
+    let c = match choices::start(answer.len(), 3, choices) {
+        Ok(c) => c,
+        Err(stop) => return u32::from(stop),
+    };
     let a = planner::certify(block, c, weights, kinds, operands, lengths, widths, table);
-    answer_words::put_certificate(a, answer)
+    answer_words::put_answer(&a, answer)
 }
 
 // The plan behind the bound of a job block and weights, in the two plan arrays. The answer has 5 words: bound, capacity, the numbers of
@@ -67,11 +65,10 @@ pub extern "C" fn planner_write_plan(
 ) -> u32
     ensures { WriteC (words choices answer.old answer.new result) block.now weights.now (lent lengths.old widths.old table.old, (kinds.old, operands.old)) (lent lengths.new widths.new table.new, (kinds.new, operands.new)) }
 {
-    let stop = choices::early(answer.len(), 5, choices);
-    if 0 < stop {
-        return stop;
-    }
-    let c = choices::choices_of(choices);
+    let c = match choices::start(answer.len(), 5, choices) {
+        Ok(c) => c,
+        Err(stop) => return u32::from(stop),
+    };
     let a = planner::write_plan(block, c, weights, lengths, widths, table, kinds, operands);
-    answer_words::put_write(a, answer)
+    answer_words::put_answer(&a, answer)
 }

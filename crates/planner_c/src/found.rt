@@ -22,13 +22,13 @@ pub extern "C" fn planner_find_weights(
 ) -> u32
     ensures { FindC (words choices answer.old answer.new result) block.now (kinds.now, operands.now) (lent lengths.old widths.old table.old, (written_kinds.old, written_operands.old)) (lent lengths.new widths.new table.new, (written_kinds.new, written_operands.new)) }
 {
-    let stop = choices::early(answer.len(), 66, choices);
-    if 0 < stop {
-        return stop;
-    }
+    let c = match choices::start(answer.len(), 66, choices) {
+        Ok(c) => c,
+        Err(stop) => return u32::from(stop),
+    };
     let a = planner::find_weights(
         block,
-        choices::choices_of(choices),
+        c,
         kinds,
         operands,
         lengths,
@@ -37,5 +37,5 @@ pub extern "C" fn planner_find_weights(
         written_kinds,
         written_operands,
     );
-    answer_words::put_found(a, answer)
+    answer_words::put_answer(&a, answer)
 }

@@ -19,11 +19,10 @@ pub extern "C" fn planner_bound_lagrangian(
 ) -> u32
     ensures { LagrangianC (words choices answer.old answer.new result) block.now weights.now multipliers.now (lent lengths.old widths.old table.old) (lent lengths.new widths.new table.new) }
 {
-    let stop = choices::early(answer.len(), 5, choices);
-    if 0 < stop {
-        return stop;
-    }
-    let c = choices::choices_of(choices);
+    let c = match choices::start(answer.len(), 5, choices) {
+        Ok(c) => c,
+        Err(stop) => return u32::from(stop),
+    };
     let a = planner::bound_lagrangian(block, c, weights, multipliers, lengths, widths, table);
-    answer_words::put_lagrangian(a, answer)
+    answer_words::put_answer(&a, answer)
 }

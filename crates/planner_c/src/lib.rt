@@ -31,13 +31,12 @@ pub extern "C" fn planner_check_plan(
 ) -> u32
     ensures { CheckC (words choices answer.old answer.new result) block.now kinds.now operands.now }
 {
-    let stop = choices::early(answer.len(), 69, choices);
-    if 0 < stop {
-        return stop;
-    }
-    let c = choices::choices_of(choices);
+    let c = match choices::start(answer.len(), 69, choices) {
+        Ok(c) => c,
+        Err(stop) => return u32::from(stop),
+    };
     let a = planner::check_plan(block, c, kinds, operands);
-    answer_words::put_plan(a, answer)
+    answer_words::put_answer(&a, answer)
 }
 
 // The same for a plan block.
@@ -50,13 +49,12 @@ pub extern "C" fn planner_check_plan_block(
 ) -> u32
     ensures { BlockC (words choices answer.old answer.new result) block.now plan.now }
 {
-    let stop = choices::early(answer.len(), 69, choices);
-    if 0 < stop {
-        return stop;
-    }
-    let c = choices::choices_of(choices);
+    let c = match choices::start(answer.len(), 69, choices) {
+        Ok(c) => c,
+        Err(stop) => return u32::from(stop),
+    };
     let a = planner::check_plan_block(block, c, plan);
-    answer_words::put_plan(a, answer)
+    answer_words::put_answer(&a, answer)
 }
 
 // The neat plan of a plan's arrays for a job block, in the two output arrays. The answer has 1 word: the node count.
@@ -72,11 +70,10 @@ pub extern "C" fn planner_neat_plan(
 ) -> u32
     ensures { NeatC (words choices answer.old answer.new result) block.now kinds.now operands.now (neat_kinds.old, neat_operands.old) (neat_kinds.new, neat_operands.new) }
 {
-    let stop = choices::early(answer.len(), 1, choices);
-    if 0 < stop {
-        return stop;
-    }
-    let c = choices::choices_of(choices);
+    let c = match choices::start(answer.len(), 1, choices) {
+        Ok(c) => c,
+        Err(stop) => return u32::from(stop),
+    };
     let a = planner::neat_plan(block, c, kinds, operands, neat_kinds, neat_operands);
-    answer_words::put_neat(a, answer)
+    answer_words::put_answer(&a, answer)
 }

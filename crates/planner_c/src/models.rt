@@ -13,11 +13,10 @@ pub extern "C" fn planner_check_model(
 ) -> u32
     ensures { ModelC (words choices answer.old answer.new result) block.now sizes.now }
 {
-    let stop = choices::early(answer.len(), 1, choices);
-    if 0 < stop {
-        return stop;
-    }
-    let c = choices::choices_of(choices);
+    let c = match choices::start(answer.len(), 1, choices) {
+        Ok(c) => c,
+        Err(stop) => return u32::from(stop),
+    };
     let a = planner::check_model(block, c, sizes);
-    answer_words::put_checked(a, answer)
+    answer_words::put_answer(&a, answer)
 }

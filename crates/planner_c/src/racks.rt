@@ -20,14 +20,13 @@ pub extern "C" fn planner_check_rack(
 ) -> u32
     ensures { RackC (words choices answer.old answer.new result) block.now (record { lengths = lengths.entry.now; widths = widths.now; kinds = kinds.now; operands = operands.now }) profits.old profits.new }
 {
-    let stop = choices::early(answer.len(), 1, choices);
-    if 0 < stop {
-        return stop;
-    }
+    let c = match choices::start(answer.len(), 1, choices) {
+        Ok(c) => c,
+        Err(stop) => return u32::from(stop),
+    };
     if profits.len() != lengths.len() {
         return answer_words::refuse(Refusal::RackSize, answer);
     }
-    let c = choices::choices_of(choices);
     let a = planner::check_plates(block, c, lengths, widths, kinds, operands);
-    answer_words::put_profits(a, profits, answer)
+    answer_words::put_profits(&a, profits, answer)
 }

@@ -2,6 +2,7 @@
 // function for both arrays.
 ghost use Rattle.std.specs.Prelude.{◌≡◌, List, [], ℕ, length};
 ghost use Rattle.promises.specs.declared.Part.{Part};
+ghost use Rattle.promises.specs.Refusals.{verdict_of};
 ghost use Rattle.promises.specs.Saw.{part_outcome};
 ghost use Rattle.promises.specs.C.{words, InC, SawC, SawKindsC, SawOperandsC};
 ghost use Rattle.saw.specs.Saw.{saw_answer};
@@ -21,13 +22,12 @@ pub extern "C" fn planner_saw_check(
 ) -> u32
     ensures { SawC (words choices answer.old answer.new result) block.now (kinds.now, operands.now) }
 {
-    let stop = choices::early(answer.len(), 68, choices);
-    if 0 < stop {
-        return stop;
-    }
-    let c = choices::choices_of(choices);
+    let c = match choices::start(answer.len(), 68, choices) {
+        Ok(c) => c,
+        Err(stop) => return u32::from(stop),
+    };
     let a = planner::saw_check(block, c, kinds, operands);
-    answer_words::put_saw(a, answer)
+    answer_words::put_answer(&a, answer)
 }
 
 // The part of a node in an array of so many entries, as both functions below answer it.
@@ -42,15 +42,14 @@ fn put_node_part(
 ) -> u32
     requires { length kinds.now ≡ length operands.now → count ≡ length kinds.now }
     ensures { InC {A = Part} {L = List ℕ} 2 part_outcome (words choices answer.old answer.new result) [] []
-        (λ c p. p ≡ part_by (saw_answer block.now c kinds.now operands.now).verdict kinds.now count node) }
+        (λ c p. p ≡ part_by (verdict_of (saw_answer block.now c kinds.now operands.now)) kinds.now count node) }
 {
-    let stop = choices::early(answer.len(), 2, choices);
-    if 0 < stop {
-        return stop;
-    }
-    let c = choices::choices_of(choices);
+    let c = match choices::start(answer.len(), 2, choices) {
+        Ok(c) => c,
+        Err(stop) => return u32::from(stop),
+    };
     let part = saw::node_part(block, c, kinds, operands, count, node as usize);
-    answer_words::put_part(part, answer)
+    answer_words::put_answer(&Ok(part), answer)
 }
 
 // The part of the kinds that belongs to a node of a plan that the saw passes and all below it; empty, at the array's end, where the plan

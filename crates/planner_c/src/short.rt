@@ -20,11 +20,10 @@ pub extern "C" fn planner_exact(
 ) -> u32
     ensures { ExactC (words choices answer.old answer.new result) block.now (lent lengths.old widths.old table.old, (kinds.old, operands.old)) (lent lengths.new widths.new table.new, (kinds.new, operands.new)) }
 {
-    let stop = choices::early(answer.len(), 5, choices);
-    if 0 < stop {
-        return stop;
-    }
-    let c = choices::choices_of(choices);
+    let c = match choices::start(answer.len(), 5, choices) {
+        Ok(c) => c,
+        Err(stop) => return u32::from(stop),
+    };
     let a = planner::exact(block, c, lengths, widths, table, kinds, operands);
-    answer_words::put_exact(a, answer)
+    answer_words::put_answer(&a, answer)
 }

@@ -17,13 +17,12 @@ pub extern "C" fn planner_check_plan_staged(
 ) -> u32
     ensures { StagedCheckC (words choices answer.old answer.new result) block.now limit kinds.now operands.now }
 {
-    let stop = choices::early(answer.len(), 70, choices);
-    if 0 < stop {
-        return stop;
-    }
-    let c = choices::choices_of(choices);
+    let c = match choices::start(answer.len(), 70, choices) {
+        Ok(c) => c,
+        Err(stop) => return u32::from(stop),
+    };
     let a = planner::check_plan_staged(block, c, limit, kinds, operands);
-    answer_words::put_staged(a, answer)
+    answer_words::put_answer(&a, answer)
 }
 
 // The staged bound of a job block, weights and a limit. The answer has 4 words: bound, capacity, and the numbers of normal lengths and
@@ -41,13 +40,12 @@ pub extern "C" fn planner_bound_staged(
 ) -> u32
     ensures { StagedC (words choices answer.old answer.new result) block.now weights.now limit (lent lengths.old widths.old table.old) (lent lengths.new widths.new table.new) }
 {
-    let stop = choices::early(answer.len(), 4, choices);
-    if 0 < stop {
-        return stop;
-    }
-    let c = choices::choices_of(choices);
+    let c = match choices::start(answer.len(), 4, choices) {
+        Ok(c) => c,
+        Err(stop) => return u32::from(stop),
+    };
     let a = planner::bound_staged(block, c, weights, limit, lengths, widths, table);
-    answer_words::put_bound(a, answer)
+    answer_words::put_answer(&a, answer)
 }
 
 // The certificate of a plan for a job block, weights and a limit. The answer has 3 words: the gap, which is 0 for a plan that is best among
@@ -67,13 +65,12 @@ pub extern "C" fn planner_certify_staged(
 ) -> u32
     ensures { StagedCertifyC (words choices answer.old answer.new result) block.now weights.now limit (kinds.now, operands.now) (lent lengths.old widths.old table.old) (lent lengths.new widths.new table.new) }
 {
-    let stop = choices::early(answer.len(), 3, choices);
-    if 0 < stop {
-        return stop;
-    }
-    let c = choices::choices_of(choices);
+    let c = match choices::start(answer.len(), 3, choices) {
+        Ok(c) => c,
+        Err(stop) => return u32::from(stop),
+    };
     let a = planner::certify_staged(
         block, c, weights, limit, kinds, operands, lengths, widths, table,
     );
-    answer_words::put_certificate(a, answer)
+    answer_words::put_answer(&a, answer)
 }

@@ -18,11 +18,10 @@ pub extern "C" fn planner_true_plan(
 ) -> u32
     ensures { TruePlanC (words choices answer.old answer.new result) block.now sizes.now (kinds.now, operands.now) (true_kinds.old, positions.old) (true_kinds.new, positions.new) }
 {
-    let stop = choices::early(answer.len(), 3, choices);
-    if 0 < stop {
-        return stop;
-    }
-    let c = choices::choices_of(choices);
+    let c = match choices::start(answer.len(), 3, choices) {
+        Ok(c) => c,
+        Err(stop) => return u32::from(stop),
+    };
     let a = planner::true_plan(block, c, sizes, kinds, operands, true_kinds, positions);
-    answer_words::put_true(a, answer)
+    answer_words::put_answer(&a, answer)
 }

@@ -19,11 +19,10 @@ pub extern "C" fn planner_plates_needed(
 ) -> u32
     ensures { NeededC (words choices answer.old answer.new result) block.now weights.now other (lent lengths.old widths.old table.old) (lent lengths.new widths.new table.new) }
 {
-    let stop = choices::early(answer.len(), 3, choices);
-    if 0 < stop {
-        return stop;
-    }
-    let c = choices::choices_of(choices);
+    let c = match choices::start(answer.len(), 3, choices) {
+        Ok(c) => c,
+        Err(stop) => return u32::from(stop),
+    };
     let a = planner::plates_needed(block, c, weights, other, lengths, widths, table);
-    answer_words::put_plates(a, answer)
+    answer_words::put_answer(&a, answer)
 }

@@ -11,7 +11,8 @@ ghost use Rattle.plates_needed.specs.Plates.{NeededPromises};
 ghost use Rattle.plates_needed.specs.Clauses.{Countable, Counted};
 
 use bound::bound_of_record;
-use promises::{BoundAnswer, Checked, Choices, JobRecord, PlatesAnswer, PlatesReport, Refusal};
+use job::Acceptance;
+use promises::{Choices, JobRecord, PlatesReport, Refusal};
 
 // The plates that the order of a record in range needs: refusals 19 and 20, then the lists, the table and the report.
 fn plates_of_record(
@@ -22,26 +23,19 @@ fn plates_of_record(
     lengths: &mut [u16],
     widths: &mut [u16],
     table: &mut [u64],
-) -> PlatesAnswer
+) -> Result<PlatesReport, Refusal>
     requires { Countable (job_of job) q weights.now × (length job.prices ≡ most_kinds) }
     ensures { Counted (job_of job) (weight_in weights.now) other q
         (lent lengths.old widths.old table.old)
         (lent lengths.new widths.new table.new) result }
 {
-    let bound = bound_of_record(job, weights, q, lengths, widths, table);
-    match bound {
-        BoundAnswer::Refused(r) => PlatesAnswer::Refused(r),
-        BoundAnswer::Answered(b) => {
-            let demands = job.demands;
-            let prices = job.prices;
-            let worth = orders::worth(job.count, &demands, &prices[..]);
-            PlatesAnswer::Answered(PlatesReport {
-                plates: orders::plates(b.bound, worth, other),
-                bound: b.bound,
-                worth: worth,
-            })
-        }
-    }
+    let b = bound_of_record(job, weights, q, lengths, widths, table)?;
+    let worth = orders::worth(job.count, &job.demands, &job.prices);
+    Ok(PlatesReport {
+        plates: orders::plates(b.bound, worth, other),
+        bound: b.bound,
+        worth,
+    })
 }
 
 // The plates that the whole order of a job block needs beside other plates that earn at most `other` in all. No fewer hold it.
@@ -53,23 +47,11 @@ pub fn plates_needed(
     lengths: &mut [u16],
     widths: &mut [u16],
     table: &mut [u64],
-) -> PlatesAnswer
+) -> Result<PlatesReport, Refusal>
     ensures { NeededPromises block.now choices weights.now other
         (lent lengths.old widths.old table.old)
         (lent lengths.new widths.new table.new) result }
 {
-    let accepted = job::accept(block, choices, weights);
-    let verdict = accepted.verdict;
-    if let Checked::Refused(r) = verdict {
-        return PlatesAnswer::Refused(r);
-    }
-    plates_of_record(
-        accepted.job,
-        weights,
-        other,
-        accepted.capacity,
-        lengths,
-        widths,
-        table,
-    )
+    let Acceptance { job, capacity } = job::accept(block, choices, weights)?;
+    plates_of_record(job, weights, other, capacity, lengths, widths, table)
 }

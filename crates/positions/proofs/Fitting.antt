@@ -1,5 +1,6 @@
 -- The sides of the pieces that fit: how the list grows, and that it gives the normal positions of the plain job of the array.
-use Rattle.positions.proofs.Prelude.{◌≡◌, refl, sym, ◌∙◌, ap, subst, true, false, and_comm, List, [], ◌∷◌, ◌++◌, map, ℕ, ◌+◌, ◌-◌, ◌*◌, ◌≤◌, ◌<◌, arith, T, leb, length, set, length-map, List·getD-append, Direction, Length, Width, range, filter, Rect, side, fits_in, normals, sides, normal_positions, size_in, price_in, pieces_job, mem_range, mem_filter, mem_map, filter_map_cong, true_fits_in, get_or_mem, plain_sides, Holds, entry, field_in, Positive, piece_fits, fitting, positions_of}
+use Rattle.positions.proofs.Prelude.{◌≡◌, refl, sym, ◌∙◌, ap, subst, true, false, and_comm, List, [], ◌∷◌, ◌++◌, map, ℕ, ◌+◌, ◌-◌, ◌*◌, ◌≤◌, ◌<◌, arith, T, leb, length, set, length-map, Direction, Length, Width, range, filter, Rect, side, fits_in, normals, sides, normal_positions, size_in, price_in, pieces_job, mem_range, mem_filter, mem_map, filter_map_cong, true_fits_in, get_or_mem, plain_sides, Holds, entry, field_in, piece_fits, fitting, positions_of}
+use Rattle.positions.specs.Clauses.{Listable}
 use Rattle.positions.proofs.Lists.{filter_taken, filter_left, filter_count, holds_more}
 
 map_snoc : (f : ℕ → ℕ) (xs : List ℕ) (x : ℕ) → map f (xs ++ (x ∷ [])) ≡ map f xs ++ (f x ∷ [])
@@ -28,19 +29,20 @@ module _ (pieces : List ℕ) (field l o : ℕ) where
   unfolding fitting
   fitting_left i n old new t w = rw (filter_left (piece_fits pieces field l o) i t) w
 
-  pub fitting_count : (n : ℕ) → length (fitting pieces field n l o) ≤ n
+  -- the sides are as positive as the pieces' own, and no more than the pieces: their positions can be listed
+  pub fitting_listable : (n room : ℕ) → Listable (field_in pieces field) n l room → Listable (entry (fitting pieces field n l o)) (length (fitting pieces field n l o)) l room
   unfolding fitting
-  fitting_count n = rw length-map (filter_count (piece_fits pieces field l o) n)
-
-  -- the written sides are as positive as the pieces' own
-  pub fitting_positive : (n k : ℕ) (old new : List ℕ) → Positive (field_in pieces field) n → Holds (fitting pieces field n l o) k old new → Positive (entry new) k
-  unfolding fitting
-  fitting_positive n k old new h w i g =
+  fitting_listable n room given =
       let xs = filter (piece_fits pieces field l o) (range 0 n) in
-      let b : i < length (fitting pieces field n l o) = omega (arith, w.number) in
-      let j = mem_map (field_in pieces field) _ xs (get_or_mem (fitting pieces field n l o) i 0 b) in
-      let r = mem_range 0 n j.0 (mem_filter (piece_fits pieces field l o) (range 0 n) j.1).0 in
-      rw (w.contents, List·getD-append (fitting pieces field n l o) _ 0 i b, j.2) (h j.0 (omega arith))
+      record {
+        kinds = rw length-map (omega (arith, filter_count (piece_fits pieces field l o) n, given.kinds));
+        most = given.most;
+        room_there = given.room_there;
+        positive = λ i b. (
+            let j = mem_map (field_in pieces field) _ xs (get_or_mem (fitting pieces field n l o) i 0 b) in
+            let r = mem_range 0 n j.0 (mem_filter (piece_fits pieces field l o) (range 0 n) j.1).0 in
+            rw j.2 (given.positive j.0 (omega arith)));
+      }
 
 module _ (r : Rect) (n : ℕ) (pieces : List ℕ) where
   found : (d : Direction) (field o : ℕ) → ((i : ℕ) → (piece_fits pieces field (side d r) o i ≡ fits_in (size_in pieces i) r) × (field_in pieces field i ≡ side d (size_in pieces i)))

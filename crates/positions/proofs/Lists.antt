@@ -30,6 +30,13 @@ holds_more xs old new n v w h =
     let e : length (xs ++ (v ∷ [])) ≡ suc (length xs) = omega (arith, length-append xs (v ∷ [])) in
     record { number = omega (arith, e, w.number); contents = rw (w.contents, w.number) (ap (λ ys. set (xs ++ ys) (length xs) v) (drop-cons old (length xs) 0 (omega arith)) ∙ set-append_seam xs _ _ v ∙ sym (ap (λ k. (xs ++ (v ∷ [])) ++ drop k old) e ∙ append_snoc xs v _)) }
 
+-- a number more is listed, or not, as it passes a test
+pub listed_more : (f : ℕ → Bool) {x n : ℕ} {old new : List ℕ} (b : Bool) → b ≡ f x → b ≡ true → Holds (filter f (range 0 x)) n old new → n < length old → Holds (filter f (range 0 (x + 1))) (n + 1) old (set new n x)
+listed_more f {x} b h e w l = rw (filter_taken f x (sym h ∙ e)) (holds_more _ _ _ _ x w l)
+
+pub listed_left : (f : ℕ → Bool) {x n : ℕ} {old new : List ℕ} (b : Bool) → b ≡ f x → b ≡ false → Holds (filter f (range 0 x)) n old new → Holds (filter f (range 0 (x + 1))) n old new
+listed_left f {x} b h e w = rw (filter_left f x (sym h ∙ e)) w
+
 -- the list, read back
 pub holds_take : {xs old new : List ℕ} {n : ℕ} → Holds xs n old new → take n new ≡ xs
 holds_take {xs} w = rw (w.contents, w.number) (take-append_seam xs _)

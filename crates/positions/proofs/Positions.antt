@@ -2,10 +2,6 @@
 -- positions, read back from an array, it is the largest normal position not above the length.
 use Rattle.positions.proofs.Prelude.{◌≡◌, sym, ◌∙◌, ap, List, ℕ, suc, ◌+◌, ◌≤◌, ◌<◌, add-one, arith, length, get_or, take, get_or-take, length-take-le, Direction, side, Job, normal_positions, normal_floor, positions_first, positions_rise, positions_some, positions_floor, Rising, LastUpTo, Floors}
 
--- the next entry is x itself
-pub last_next : (positions : List ℕ) (n x i : ℕ) → Rising positions n → i + 1 < n → get_or positions (i + 1) 0 ≤ x → x ≤ get_or positions (i + 1) 0 → LastUpTo positions n x (i + 1)
-last_next positions n x i rising h l g = record { within = h; not_above = l; next_above = λ k. omega (arith, rising.1 (i + 1) k) }
-
 module _ (J : Job) (d : Direction) (positions : List ℕ) (n : ℕ) (h : n ≤ length positions) (e : take n positions ≡ normal_positions J d) where
   count_is : length (normal_positions J d) ≡ n
   count_is = sym (ap length e) ∙ length-take-le n positions h

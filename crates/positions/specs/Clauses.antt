@@ -1,5 +1,5 @@
 -- Normal positions as the planner finds them, from the array of the pieces, and the map from a length to the last position not above it.
-use Rattle.std.specs.Prelude.{◌≡◌, Bool, false, ◌&&◌, List, map, ℕ, ◌+◌, ◌-◌, ◌*◌, ◌≤◌, ◌<◌, leb, length, get_or, take}
+use Rattle.std.specs.Prelude.{◌≡◌, Bool, false, ◌&&◌, List, map, ℕ, ◌+◌, ◌-◌, ◌*◌, ◌≤◌, ◌<◌, leb, length, get_or}
 use Rattle.cutting.specs.Limits.{most_wide_side, most_pieces}
 use Rattle.cutting.specs.Lists.{range, filter, over}
 use Rattle.cutting.specs.Normal.{normal?, normals}
@@ -38,11 +38,11 @@ abbrev pub Marked : List ℕ → ℕ → List Bool → Type 0
 Marked zs x marks = (y : ℕ) → y < x → get_or marks y false ≡ normal? zs y
 
 -- what the scan for x asks: marks of the sums below x of up to 128 sides, none of them 0
-pub record Scannable (sides : List ℕ) (n x : ℕ) (marks : List Bool) : Type 0 where
-  pub kinds : n ≤ most_pieces
+pub record Scannable (sides : List ℕ) (x : ℕ) (marks : List Bool) : Type 0 where
+  pub kinds : length sides ≤ most_pieces
   pub most : x ≤ most_wide_side
-  pub positive : Positive (entry sides) n
-  pub marked : Marked (take n sides) x marks
+  pub positive : Positive (entry sides) (length sides)
+  pub marked : Marked sides x marks
 
 -- what listing the positions up to a side asks: up to 128 sides, none of them 0, and room for every number up to the side
 pub record Listable (sides : ℕ → ℕ) (n side room : ℕ) : Type 0 where

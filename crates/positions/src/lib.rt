@@ -2,7 +2,7 @@
 // One function serves lengths and widths: field 0 of a piece in the array is its length, field 1 its width.
 #![tactic(auto)]
 
-ghost use Rattle.std.specs.Prelude.{◌≡◌, ◌&&◌, ◌+◌, ◌≤◌, ◌<◌, leb, length, take};
+ghost use Rattle.std.specs.Prelude.{◌≡◌, ◌&&◌, ◌+◌, ◌≤◌, ◌<◌, leb, length};
 ghost use Rattle.cutting.specs.Limits.{most_pieces};
 ghost use Rattle.cutting.specs.Normal.{normal?, normals};
 ghost use Rattle.positions.specs.Clauses.{Holds, entry, field_in, fitting, positions_of, Scannable, Listable, Mappable, Floors};
@@ -11,10 +11,7 @@ ghost use Rattle.positions.specs.Clauses.{Holds, entry, field_in, fitting, posit
 fn fits(s: u32, o: u32, side: u16, other: u16) -> bool
     ensures { result ≡ leb s side && leb o other }
 {
-    if s <= side as u32 {
-        return o <= other as u32;
-    }
-    false
+    s <= u32::from(side) && o <= u32::from(other)
 }
 
 // The sides of the pieces that fit, squeezed to the front of `fit`.
@@ -42,34 +39,22 @@ fn fitting_sides(
 }
 
 // Whether x is 0, or a side leads to it from a marked position.
-fn is_normal(marks: &[bool; 1021], fit: &[u16; 128], count: u16, x: u16) -> bool
-    requires { Scannable fit.now count x marks.now }
-    ensures { result ≡ normal? (take count fit.now) x }
+fn is_normal(marks: &[bool; 1021], fit: &[u16], x: u16) -> bool
+    requires { Scannable fit.now x marks.now }
+    ensures { result ≡ normal? fit.now x }
 {
-    if x == 0 {
-        return true;
-    }
-    for i in 0..count {
-        let s = fit[i as usize];
-        if s <= x {
-            if marks[(x - s) as usize] {
-                return true;
-            }
-        }
-    }
-    false
+    x == 0 || fit.iter().any(|&s| s <= x && marks[(x - s) as usize])
 }
 
 // Marks the sums up to `side` and lists them: position after position, each from the marks before it.
-fn list_sums(fit: &[u16; 128], count: u16, side: u16, out: &mut [u16]) -> u16
-    requires { Listable (entry fit.now) count side (length out.old) }
-    ensures { Holds (normals (take count fit.now) side) result out.old out.new }
+fn list_sums(fit: &[u16], side: u16, out: &mut [u16]) -> u16
+    requires { Listable (entry fit.now) (length fit.now) side (length out.old) }
+    ensures { Holds (normals fit.now side) result out.old out.new }
 {
     let mut marks = [false; 1021];
     let mut n: u16 = 0;
-    let top = side + 1;
-    for x in 0..top {
-        let normal = is_normal(&marks, fit, count, x);
+    for x in 0..=side {
+        let normal = is_normal(&marks, fit, x);
         marks[x as usize] = normal;
         if normal {
             out[n as usize] = x;
@@ -93,7 +78,7 @@ pub fn normal_positions(
 {
     let mut fit = [0u16; 128];
     let n = fitting_sides(pieces, field, count, side, other, &mut fit);
-    list_sums(&fit, n, side, out)
+    list_sums(&fit[..n as usize], side, out)
 }
 
 // For each length up to `side` the index of the last position not above it, found in one pass; nothing is cleared first.
@@ -102,13 +87,11 @@ pub fn map_floors(positions: &[u16], count: u16, side: u16, floors: &mut [u16])
     ensures { (length floors.new ≡ length floors.old) × Floors positions.now count (side + 1) floors.new }
 {
     let mut i: u16 = 0;
-    for x in 0..side + 1 {
+    for y in 0..=side {
         let next = i + 1;
-        if next < count {
-            if positions[next as usize] <= x {
-                i = next;
-            }
+        if next < count && positions[next as usize] <= y {
+            i = next;
         }
-        floors[x as usize] = i;
+        floors[y as usize] = i;
     }
 }

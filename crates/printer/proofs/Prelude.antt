@@ -20,13 +20,12 @@ pub use Rattle.plan.specs.Calls.{JobPasses}
 pub use Rattle.plan.specs.Trees.{ChecksPlan, PlanOf, first_tree, tree_in, trees_in}
 pub use Rattle.promises.specs.declared.Choices.{Choices}
 pub use Rattle.promises.specs.declared.Refusal.{Refusal}
-pub use Rattle.promises.specs.declared.WriteAnswer.{WriteAnswer}
 pub use Rattle.promises.specs.declared.WriteReport.{WriteReport}
 pub use Rattle.writer.proofs.Call.{written_accepted, written_fits}
 pub use Rattle.writer.specs.Write.{WritePromises, block_plan, write_answer}
 pub use Rattle.printer.specs.Printer.{DemandsKept, JudgesPlan, SaysOf}
 pub use Rattle.printer.specs.declared.Judged.{Judged}
-pub use Rattle.printer.specs.declared.Judgement.{Judgement}
-pub use Rattle.promises.specs.declared.Checked.{Checked}
-pub use Rattle.promises.specs.declared.Checked.TheVariants.{Passed, Refused}
-pub use Rattle.promises.specs.declared.PlanAnswer.{PlanAnswer}
+pub use Rattle.std.proofs.Common.{Ok, Err}
+pub use Rattle.promises.specs.Refusals.{Answer, verdict_of}
+pub use Rattle.std.specs.Result.{is_ok}
+pub use Rattle.promises.specs.declared.Report.{Report}

@@ -1,5 +1,5 @@
 -- What the bound printer decides: where the job ends in the input, whether a plan keeps every demand, and what is said of the written plan.
-use Rattle.std.specs.Prelude.{◌≡◌, Bool, true, List, ℕ, ◌+◌, ◌*◌, ◌≤◌, min, length, take}
+use Rattle.std.specs.Prelude.{◌≡◌, Bool, true, List, ℕ, ◌+◌, ◌*◌, ◌≤◌, min, length, take, Ok, Err}
 use Rattle.cutting.specs.Tree.{Tree}
 use Rattle.cutting.specs.Pieces.{Piece}
 use Rattle.cutting.specs.Limits.{most_nodes}
@@ -12,11 +12,9 @@ use Rattle.job.specs.Block.{count_at}
 use Rattle.job.specs.Weights.{block_job}
 use Rattle.plan.specs.Trees.{PlanOf}
 use Rattle.bound.specs.Bound.{Memory}
-use Rattle.promises.specs.declared.WriteAnswer.TheVariants as write
 use Rattle.writer.specs.Write.{block_plan, write_answer}
 use Rattle.printer.specs.declared.Judged.{Judged}
-use Rattle.printer.specs.declared.Judgement.{Judgement}
-use Rattle.printer.specs.declared.Judgement.TheVariants as say
+use Rattle.promises.specs.Refusals.{Answer}
 
 -- the job, an old block, is the first 6 + 10n bytes, or all if fewer are there; the rest are weights
 abbrev pub job_end : List ℕ → ℕ
@@ -41,6 +39,6 @@ pub record SaysOf (J : Job) (t : Tree Piece) (kinds operands : List ℕ) (p : Ju
   pub none_better : p.best ≡ true → NoneBetter J p.profit
 
 -- what is said of a job block and weights: of the plan behind the bound, as it was written, or the writing call's refusal
-pub record JudgesPlan (s : List ℕ) (choices : Choices) (ws : List ℕ) (m : Memory) (kinds operands new_kinds new_operands : List ℕ) (r : Judgement) : Type 0 where
-  pub written : (p : Judged) → r ≡ say.Plan p → (write_answer s choices ws m kinds operands ≡ write.Written p.report) × SaysOf (block_job s choices) (block_plan s choices ws) new_kinds new_operands p
-  pub refused : (x : Refusal) → r ≡ say.Refused x → write_answer s choices ws m kinds operands ≡ write.Refused x
+pub record JudgesPlan (s : List ℕ) (choices : Choices) (ws : List ℕ) (m : Memory) (kinds operands new_kinds new_operands : List ℕ) (r : Answer Judged) : Type 0 where
+  pub written : (p : Judged) → r ≡ Ok p → (write_answer s choices ws m kinds operands ≡ Ok p.report) × SaysOf (block_job s choices) (block_plan s choices ws) new_kinds new_operands p
+  pub refused : (x : Refusal) → r ≡ Err x → write_answer s choices ws m kinds operands ≡ Err x

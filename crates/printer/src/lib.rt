@@ -10,7 +10,7 @@ ghost use Rattle.printer.specs.Printer.{job_end, DemandsKept, JudgesPlan};
 
 use job::{read_job, read_u16};
 use plan::check_plan;
-use promises::{Checked, Choices, Refusal, WriteAnswer, WriteReport};
+use promises::{Choices, Refusal, WriteReport};
 use std::io;
 use std::io::Read;
 use writer::write_plan;
@@ -34,12 +34,7 @@ pub fn job_end(input: &[u8]) -> usize
 pub fn keeps_demands(block: &[u8], choices: Choices, kinds: &[u8], operands: &[u16]) -> bool
     ensures { DemandsKept (JobPasses block.now choices) (block_job block.now choices) kinds.now operands.now result }
 {
-    let answer = check_plan(block, choices, kinds, operands);
-    let verdict = answer.verdict;
-    match verdict {
-        Checked::Passed => true,
-        Checked::Refused(_) => false,
-    }
+    check_plan(block, choices, kinds, operands).is_ok()
 }
 
 // What is said of a written plan: the writing call's report, the plan's profit, and whether it is best, which is whether it keeps every
@@ -49,13 +44,6 @@ pub struct Judged {
     pub report: WriteReport,
     pub profit: u64,
     pub best: bool,
-}
-
-// What is said of a job block and weights.
-#[derive(Clone, Copy, Drop)]
-pub enum Judgement {
-    Plan(Judged),
-    Refused(Refusal),
 }
 
 // The plan of a job block and weights, written into the two arrays, and what is said of it; or the refusal.
@@ -68,26 +56,20 @@ pub fn judge_plan(
     table: &mut [u64],
     kinds: &mut [u8],
     operands: &mut [u16],
-) -> Judgement
+) -> Result<Judged, Refusal>
     ensures { JudgesPlan block.now choices weights.now (lent lengths.old widths.old table.old)
         kinds.old operands.old kinds.new operands.new result }
 {
-    let answer = write_plan(
+    let report = write_plan(
         block, choices, weights, lengths, widths, table, kinds, operands,
-    );
-    match answer {
-        WriteAnswer::Refused(r) => Judgement::Refused(r),
-        WriteAnswer::Written(report) => {
-            let nodes = report.nodes as usize;
-            let best = keeps_demands(block, choices, &kinds[..nodes], &operands[..nodes]);
-            let judged = Judged {
-                report: report,
-                profit: report.bound,
-                best: best,
-            };
-            Judgement::Plan(judged)
-        }
-    }
+    )?;
+    let nodes = report.nodes as usize;
+    let best = keeps_demands(block, choices, &kinds[..nodes], &operands[..nodes]);
+    Ok(Judged {
+        report,
+        profit: report.bound,
+        best,
+    })
 }
 
 // A word of a line.
@@ -121,8 +103,9 @@ fn print_refusal(rt: &impl Print, r: Refusal) -> io::Result<()> {
 
 // The line of the plate's sides and the number of kinds.
 fn print_plate(rt: &impl Print, block: &[u8], choices: Choices) -> io::Result<()> {
-    let read = read_job(block, choices);
-    let job = read.job;
+    let Ok(job) = read_job(block, choices) else {
+        return Ok(());
+    };
     print_word(rt, b"plate ")?;
     print_small(rt, job.length)?;
     print_word(rt, b" ")?;
@@ -140,8 +123,8 @@ fn print_weight(rt: &impl Print, weight: u8) -> io::Result<()> {
 
 // The weights, one after another.
 fn print_each(rt: &impl Print, weights: &[u8]) -> io::Result<()> {
-    for i in 0..weights.len() {
-        print_weight(rt, weights[i])?;
+    for weight in weights {
+        print_weight(rt, *weight)?;
     }
     Ok(())
 }
@@ -174,8 +157,8 @@ fn print_node(rt: &impl Print, kind: u8, operand: u16) -> io::Result<()> {
 fn print_nodes(rt: &impl Print, kinds: &[u8], operands: &[u16]) -> io::Result<()>
     requires { length kinds.now ≡ length operands.now }
 {
-    for i in 0..kinds.len() {
-        print_node(rt, kinds[i], operands[i])?;
+    for (kind, operand) in kinds.iter().zip(operands) {
+        print_node(rt, *kind, *operand)?;
     }
     Ok(())
 }
@@ -228,8 +211,8 @@ fn print_answer(rt: &impl Print, block: &[u8], choices: Choices, weights: &[u8])
         &mut operands,
     );
     match answer {
-        Judgement::Refused(r) => print_refusal(rt, r),
-        Judgement::Plan(judged) => {
+        Err(r) => print_refusal(rt, r),
+        Ok(judged) => {
             let nodes = judged.report.nodes as usize;
             print_report(
                 rt,

@@ -7,7 +7,6 @@ use Prim.Native.Nat.{ℕ, ◌+◌, ◌-◌, ◌*◌, ◌≤◌, ◌<◌}
 use lib.Dec.{T}
 use Rattle.promises.specs.declared.Direction.{Direction}
 use Rattle.promises.specs.declared.Direction.TheVariants.{Length}
-use Rattle.promises.specs.declared.Checked.TheVariants.{Refused}
 use Rattle.promises.specs.declared.Refusal.TheVariants.{SecondCount}
 use Rattle.promises.specs.Lists.{range, sum, filter}
 use Rattle.promises.specs.Refusals.{first_refusal}
@@ -15,6 +14,7 @@ use Rattle.promises.specs.Job.{Piece, turned, kind, times, Tree, piece, cut, Job
 use Rattle.promises.specs.Figure.{ordered, cut_remains}
 use Rattle.promises.specs.Systems.{by_weight, across}
 use Rattle.promises.specs.Block.{two_checks}
+use Rattle.std.proofs.Common.{Err}
 
 -- a piece is no wider than its rectangle
 pub piece_fits : (J : Job) (l w : ℕ) (p : Piece) → GuillotineTree J l w (piece p) → (laid J p).1 ≤ w
@@ -67,6 +67,6 @@ pub nothing_beyond : cut_remains 3 3 ≡ false
 nothing_beyond = refl
 
 -- 24 comes before 9
-pub second_count_first : first_refusal (two_checks two_kinds (255 ∷ 255 ∷ []) []) ≡ Refused SecondCount
+pub second_count_first : first_refusal (two_checks two_kinds (255 ∷ 255 ∷ []) []) ≡ Err SecondCount
 unfolding first_refusal sum
 second_count_first = refl

@@ -3,20 +3,20 @@
 -- docs/SCOPE.md: The C interface.
 use Rattle.std.specs.Prelude.{◌≡◌, Bool, not, List, [], ◌∷◌, ℕ, ◌/◌, ◌%◌, ◌≤◌, ◌<◌, eqb, length, take}
 use Rattle.std.proofs.Math.Option.{none, some}
-use Rattle.promises.specs.Prelude.{Choices, Checked}
+use Rattle.promises.specs.Prelude.{Choices}
 use Rattle.promises.specs.declared.Refusal.TheVariants.{RackSize}
 use Rattle.promises.specs.Lists.{over}
-use Rattle.promises.specs.Refusals.{by_check, next, first_refusal, Outcome, outcome_by}
+use Rattle.promises.specs.Refusals.{by_check, next, first_refusal, Outcome, outcome_of, Checked}
 use Rattle.promises.specs.Plan.{kinds_of, operands_of}
 use Rattle.promises.specs.Systems.{one_weight, within_stages}
 use Rattle.promises.specs.Block.{weight_in}
 use Rattle.promises.specs.Call.{Memory, Arrays}
-use Rattle.promises.specs.Calls.{plan_form, staged_form, bound_form, two_form, write_form, neat_form, exact_form, certificate_form, CheckPromises, BlockPromises, StagedCheckPromises, NeatPromises, BoundPromises, WritePromises, CertifyPromises, StagedPromises, TwoPromises, ExactPromises}
-use Rattle.promises.specs.Rounds.{found_form, Lent, FindPromises}
+use Rattle.promises.specs.Calls.{plan_values, staged_values, bound_values, two_values, write_values, neat_values, exact_values, certificate_values, CheckPromises, BlockPromises, StagedCheckPromises, NeatPromises, BoundPromises, WritePromises, CertifyPromises, StagedPromises, TwoPromises, ExactPromises}
+use Rattle.promises.specs.Rounds.{found_values, Lent, FindPromises}
 use Rattle.promises.specs.Rack.{Rack, rack_verdict, rack_walked, RackChecks}
-use Rattle.promises.specs.Saw.{saw_form, part_outcome, SawPromises, PartPromises}
-use Rattle.promises.specs.True.{true_form, ModelPromises, TruePromises}
-use Rattle.promises.specs.Orders.{plates_form, lagrangian_form, NeededPromises, LagrangianPromises}
+use Rattle.promises.specs.Saw.{saw_values, part_outcome, SawPromises, PartPromises}
+use Rattle.promises.specs.True.{true_values, ModelPromises, TruePromises}
+use Rattle.promises.specs.Orders.{plates_values, lagrangian_values, NeededPromises, LagrangianPromises}
 
 -- the choices of a word: bit 1 is turning, bit 2 full demand, bit 4 the old block, bit 8 grain; no other bit has a meaning
 abbrev pub bit : ℕ → ℕ → Bool
@@ -45,55 +45,55 @@ pub record InC {A L : Type 0} (n : ℕ) (said : A → Outcome) (w : Words) (old 
 -- The exported functions; s is the job block. Where nothing is lent but the answer, `[]` stands for it.
 -- planner_check_plan: 69 words
 abbrev pub CheckC : Words → (s kinds operands : List ℕ) → Type 0
-CheckC w s kinds operands = InC {L = List ℕ} 69 plan_form.outcome w [] [] (λ c. CheckPromises s c kinds operands)
+CheckC w s kinds operands = InC {L = List ℕ} 69 (outcome_of plan_values) w [] [] (λ c. CheckPromises s c kinds operands)
 
 -- planner_check_plan_block: 69 words
 abbrev pub BlockC : Words → (s plan : List ℕ) → Type 0
-BlockC w s plan = InC {L = List ℕ} 69 plan_form.outcome w [] [] (λ c. BlockPromises s c plan)
+BlockC w s plan = InC {L = List ℕ} 69 (outcome_of plan_values) w [] [] (λ c. BlockPromises s c plan)
 
 -- planner_check_plan_staged: 70 words
 abbrev pub StagedCheckC : Words → (s : List ℕ) → (limit : ℕ) → (kinds operands : List ℕ) → Type 0
-StagedCheckC w s limit kinds operands = InC {L = List ℕ} 70 staged_form.outcome w [] [] (λ c. StagedCheckPromises s c limit kinds operands)
+StagedCheckC w s limit kinds operands = InC {L = List ℕ} 70 (outcome_of staged_values) w [] [] (λ c. StagedCheckPromises s c limit kinds operands)
 
 -- planner_neat_plan: 1 word; the output arrays are lent
 abbrev pub NeatC : Words → (s kinds operands : List ℕ) → (old new : Arrays) → Type 0
-NeatC w s kinds operands old new = InC 1 neat_form.outcome w old new (λ c. NeatPromises s c kinds operands old new)
+NeatC w s kinds operands old new = InC 1 (outcome_of neat_values) w old new (λ c. NeatPromises s c kinds operands old new)
 
 -- planner_bound: 4 words
 abbrev pub BoundC : Words → (s ws : List ℕ) → (old new : Memory) → Type 0
-BoundC w s ws old new = InC 4 bound_form.outcome w old new (λ c. BoundPromises s c ws old new)
+BoundC w s ws old new = InC 4 (outcome_of bound_values) w old new (λ c. BoundPromises s c ws old new)
 
 -- planner_write_plan: 5 words; lists, table and plan arrays are lent
 abbrev pub WriteC : Words → (s ws : List ℕ) → (old new : Lent) → Type 0
-WriteC w s ws old new = InC 5 write_form.outcome w old new (λ c. WritePromises s c ws old.0 new.0 old.1 new.1)
+WriteC w s ws old new = InC 5 (outcome_of write_values) w old new (λ c. WritePromises s c ws old.0 new.0 old.1 new.1)
 
 -- planner_certify: 3 words
 abbrev pub CertifyC : Words → (s ws : List ℕ) → (plan : Arrays) → (old new : Memory) → Type 0
-CertifyC w s ws plan old new = InC 3 certificate_form.outcome w old new (λ c. CertifyPromises none (one_weight (weight_in ws)) s c ws plan old new)
+CertifyC w s ws plan old new = InC 3 (outcome_of certificate_values) w old new (λ c. CertifyPromises none (one_weight (weight_in ws)) s c ws plan old new)
 
 -- planner_bound_staged: 4 words
 abbrev pub StagedC : Words → (s ws : List ℕ) → (limit : ℕ) → (old new : Memory) → Type 0
-StagedC w s ws limit old new = InC 4 bound_form.outcome w old new (λ c. StagedPromises s c ws limit old new)
+StagedC w s ws limit old new = InC 4 (outcome_of bound_values) w old new (λ c. StagedPromises s c ws limit old new)
 
 -- planner_certify_staged: 3 words
 abbrev pub StagedCertifyC : Words → (s ws : List ℕ) → (limit : ℕ) → (plan : Arrays) → (old new : Memory) → Type 0
-StagedCertifyC w s ws limit plan old new = InC 3 certificate_form.outcome w old new (λ c. CertifyPromises (some limit) (within_stages (weight_in ws) limit) s c ws plan old new)
+StagedCertifyC w s ws limit plan old new = InC 3 (outcome_of certificate_values) w old new (λ c. CertifyPromises (some limit) (within_stages (weight_in ws) limit) s c ws plan old new)
 
 -- planner_bound_two: 5 words
 abbrev pub TwoC : Words → (s first second : List ℕ) → (old new : Memory) → Type 0
-TwoC w s first second old new = InC 5 two_form.outcome w old new (λ c. TwoPromises s c first second old new)
+TwoC w s first second old new = InC 5 (outcome_of two_values) w old new (λ c. TwoPromises s c first second old new)
 
 -- planner_exact: 5 words
 abbrev pub ExactC : Words → (s : List ℕ) → (old new : Lent) → Type 0
-ExactC w s old new = InC 5 exact_form.outcome w old new (λ c. ExactPromises s c old.0 new.0 old.1 new.1)
+ExactC w s old new = InC 5 (outcome_of exact_values) w old new (λ c. ExactPromises s c old.0 new.0 old.1 new.1)
 
 -- planner_find_weights: 66 words
 abbrev pub FindC : Words → (s : List ℕ) → (plan : Arrays) → (old new : Lent) → Type 0
-FindC w s plan old new = InC 66 found_form.outcome w old new (λ c. FindPromises s c plan old new)
+FindC w s plan old new = InC 66 (outcome_of found_values) w old new (λ c. FindPromises s c plan old new)
 
 -- planner_saw_check: 68 words
 abbrev pub SawC : Words → (s : List ℕ) → (plan : Arrays) → Type 0
-SawC w s plan = InC {L = List ℕ} 68 saw_form.outcome w [] [] (λ c. SawPromises s c plan)
+SawC w s plan = InC {L = List ℕ} 68 (outcome_of saw_values) w [] [] (λ c. SawPromises s c plan)
 
 -- planner_saw_kinds: 2 words
 abbrev pub SawKindsC : Words → (s : List ℕ) → (plan : Arrays) → (node : ℕ) → Type 0
@@ -112,20 +112,20 @@ pub record RackSlices (s : List ℕ) (choices : Choices) (k : Rack) (old new : L
 
 -- planner_check_rack: 1 word, for a place
 abbrev pub RackC : Words → (s : List ℕ) → (k : Rack) → (old new : List ℕ) → Type 0
-RackC w s k old new = InC 1 (λ v. outcome_by v []) w old new (λ c. RackSlices s c k old new)
+RackC w s k old new = InC 1 (outcome_of (λ _. [])) w old new (λ c. RackSlices s c k old new)
 
 -- planner_check_model: 1 word, for a place
 abbrev pub ModelC : Words → (s z : List ℕ) → Type 0
-ModelC w s z = InC {L = List ℕ} 1 (λ v. outcome_by v []) w [] [] (λ c. ModelPromises s c z)
+ModelC w s z = InC {L = List ℕ} 1 (outcome_of (λ _. [])) w [] [] (λ c. ModelPromises s c z)
 
 -- planner_true_plan: 3 words; the output arrays are lent
 abbrev pub TruePlanC : Words → (s z : List ℕ) → (plan old new : Arrays) → Type 0
-TruePlanC w s z plan old new = InC 3 true_form.outcome w old new (λ c. TruePromises s c z plan old new)
+TruePlanC w s z plan old new = InC 3 (outcome_of true_values) w old new (λ c. TruePromises s c z plan old new)
 
 -- planner_plates_needed: 3 words
 abbrev pub NeededC : Words → (s ws : List ℕ) → (other : ℕ) → (old new : Memory) → Type 0
-NeededC w s ws other old new = InC 3 plates_form.outcome w old new (λ c. NeededPromises s c ws other old new)
+NeededC w s ws other old new = InC 3 (outcome_of plates_values) w old new (λ c. NeededPromises s c ws other old new)
 
 -- planner_bound_lagrangian: 5 words
 abbrev pub LagrangianC : Words → (s ws ms : List ℕ) → (old new : Memory) → Type 0
-LagrangianC w s ws ms old new = InC 5 lagrangian_form.outcome w old new (λ c. LagrangianPromises s c ws ms old new)
+LagrangianC w s ws ms old new = InC 5 (outcome_of lagrangian_values) w old new (λ c. LagrangianPromises s c ws ms old new)

@@ -1,29 +1,22 @@
 -- What every call promises: its answer is the first refusal of its checks or its report, with the table's number and values; lent memory is
 -- left by one rule, for every system of shares; and what the bound behind an answer is.
 -- docs/SCOPE.md: The table of refusals; Lent memory; The certificate; The written plan.
-use Rattle.std.specs.Prelude.{◌≡◌, ◌||◌, List, [], ◌∷◌, ℕ, ◌+◌, ◌<◌, ltb, length}
-use Rattle.promises.specs.Prelude.{Length, Width, Refusal, Checked, Certificate}
+use Rattle.std.specs.Prelude.{◌≡◌, ◌||◌, List, [], ◌∷◌, ℕ, ◌+◌, ◌<◌, ltb, length, Ok}
+use Rattle.promises.specs.Prelude.{Length, Width, Certificate}
 use Rattle.promises.specs.declared.Refusal.TheVariants.{ListShort, TableShort, PlanLong}
 use Rattle.promises.specs.declared.Certificate.TheVariants.{Best, Gap}
 use Rattle.promises.specs.Lists.{over}
-use Rattle.promises.specs.Refusals.{Check, by_check, next, first_refusal, Outcome, outcome_by, most_nodes}
+use Rattle.promises.specs.Refusals.{Check, by_check, next, first_refusal, outcome_by, most_nodes, Answer, answer_by, outcome_of, Checked}
 use Rattle.promises.specs.Job.{Piece, Tree, Job, widened}
 use Rattle.promises.specs.Plan.{kinds_of, operands_of, node_count, IdleFree}
 use Rattle.promises.specs.Figure.{normal_positions}
 use Rattle.promises.specs.Systems.{System, NoneAbove, NoneFiner, EarnsAmong, bound_in, Holds, FiguresMost, Recursion, Floors, NormalSums, PlanFollows, table_words, Figures, Kept}
 use Rattle.promises.specs.Check.{Earns}
 
--- an answer of type A: what a report R and a refusal are answered as, the values of a report, and the number and values of every answer
-pub record Form (A R : Type 0) : Type 0 where
-  pub answered : R → A
-  pub refused : Refusal → A
-  pub values : R → List ℕ
-  pub outcome : A → Outcome
-
 -- an answer is the report where the checks pass, and else the first refusal; its number and values are the table's
-pub record Answers {A R : Type 0} (form : Form A R) (v : Checked) (report : R) (r : A) : Type 0 where
-  pub answer : r ≡ by_check v (form.answered report) form.refused
-  pub said : form.outcome r ≡ outcome_by v (form.values report)
+pub record Answers {A : Type 0} (values : A → List ℕ) (v : Checked) (report : A) (r : Answer A) : Type 0 where
+  pub answer : r ≡ answer_by v report
+  pub said : outcome_of values r ≡ outcome_by v (values report)
 
 -- the memory that a call lends: two lists and a table
 pub record Memory : Type 0 where
@@ -87,6 +80,6 @@ pub record Writes {S : Type 0} (Accepted : Type 0) (v : Checked) (J : Job) (Y : 
 -- what a certificate says of a plan's arrays and of all trees within the limit that keep every demand, cut at whole units or finer. "Best": the
 -- plan is that of a tree that earns the profit named, which is the bound, and none of them earns more. A gap: the plan earns the profit named,
 -- the gap is positive, profit and gap sum to the bound, and none of them earns more than that
-pub record Certifies {S : Type 0} (J : Job) (Y : System S) (plan : Arrays) (r : Certificate) : Type 0 where
-  pub best : (n : ℕ) → r ≡ Best n → Earns J Y.limit plan.0 plan.1 n × (n ≡ bound_in J Y) × NoneAbove J Y.limit n × NoneFiner J Y.limit n
-  pub gap : (n gap : ℕ) → r ≡ Gap n gap → Earns J Y.limit plan.0 plan.1 n × (0 < gap) × (n + gap ≡ bound_in J Y) × NoneAbove J Y.limit (n + gap) × NoneFiner J Y.limit (n + gap)
+pub record Certifies {S : Type 0} (J : Job) (Y : System S) (plan : Arrays) (r : Answer Certificate) : Type 0 where
+  pub best : (n : ℕ) → r ≡ Ok (Best n) → Earns J Y.limit plan.0 plan.1 n × (n ≡ bound_in J Y) × NoneAbove J Y.limit n × NoneFiner J Y.limit n
+  pub gap : (n gap : ℕ) → r ≡ Ok (Gap n gap) → Earns J Y.limit plan.0 plan.1 n × (0 < gap) × (n + gap ≡ bound_in J Y) × NoneAbove J Y.limit (n + gap) × NoneFiner J Y.limit (n + gap)

@@ -1,11 +1,11 @@
 -- The check of a plan: node after node in preorder by 12 to 17 and 36, then 18, 26 and 23 of the tree; and what a verdict on a plan means for trees.
 -- docs/SCOPE.md: Plans; Grain; The table of refusals; No idle cuts; No more than so many stages.
-use Rattle.std.specs.Prelude.{◌≡◌, Bool, true, false, not, List, [], ◌∷◌, ◌++◌, ℕ, ◌+◌, ◌-◌, ◌*◌, leb, ltb, eqb, length, get_or, set, replicate}
+use Rattle.std.specs.Prelude.{◌≡◌, Bool, true, false, not, List, [], ◌∷◌, ◌++◌, ℕ, ◌+◌, ◌-◌, ◌*◌, leb, ltb, eqb, length, get_or, set, replicate, Err}
 use Rattle.std.proofs.Math.Option.{Option}
-use Rattle.promises.specs.Prelude.{Node, Checked, Passed, Refused}
+use Rattle.promises.specs.Prelude.{Node}
 use Rattle.promises.specs.declared.Node.TheVariants as node
 use Rattle.promises.specs.declared.Refusal.TheVariants as refusal
-use Rattle.promises.specs.Refusals.{Check, by_check, next, first_refusal, outside, most_kinds, most_nodes}
+use Rattle.promises.specs.Refusals.{Check, by_check, next, first_refusal, outside, most_kinds, most_nodes, passed, Checked}
 use Rattle.promises.specs.Job.{Rect, side, part, fits_in, Piece, upright, turned, kind, Tree, Job, laid, profit, WithinLimit}
 use Rattle.promises.specs.Plan.{node_of, nodes_in, tree_in, rest, tree_report, IdleFree, tree_checks, stage_checks, DrawnAs, PlanOf}
 
@@ -60,13 +60,13 @@ copied n copies = of_piece (λ p. set copies (kind p) (get_or copies (kind p) 0 
 -- the walk over one tree from node k on, over the nodes left, the rectangles still to be filled, the next one first, and the copies so far:
 -- its verdict, 12 to 17 and 36, and the node after its last; 17 gives the node count, for all k nodes are read
 unfoldable pub tree_walk : Job → ℕ → List (ℕ × ℕ) → List Rect → List ℕ → Checked × ℕ
-tree_walk J k [] [] copies = (Passed, k)
-tree_walk J k (n ∷ ns) [] copies = (Passed, k)
-tree_walk J k [] (r ∷ rs) copies = (Refused (refusal.NodeMissing k), k)
+tree_walk J k [] [] copies = (passed, k)
+tree_walk J k (n ∷ ns) [] copies = (passed, k)
+tree_walk J k [] (r ∷ rs) copies = (Err (refusal.NodeMissing k), k)
 tree_walk J k (n ∷ ns) (r ∷ rs) copies =
     by_check (first_refusal (node_checks J copies r k n.0 n.1))
     (tree_walk J (k + 1) ns (parts J.kerf (node_of n.0 n.1) r ++ rs) (copied (node_of n.0 n.1) copies))
-    (λ x. (Refused x, k))
+    (λ x. (Err x, k))
 
 -- the walk over a plan from the plate on, its nodes numbered from k
 abbrev pub walked : Job → ℕ → List (ℕ × ℕ) → Checked × ℕ
@@ -96,11 +96,11 @@ plan_verdict J limit kinds operands =
 -- refused for its first idle cut in preorder, or else for the first cut whose path passes the limit, alone; without an idle cut `old` is the
 -- verdict, which leaves 26 out
 pub record Judges (Before : Type 0) (J : Job) (limit : Option ℕ) (kinds operands : List ℕ) (old v : Checked) : Type 0 where
-  pub passes : Before → (t : Tree Piece) → PlanOf J t kinds operands → WithinLimit limit t → v ≡ Passed
-  pub before : v ≡ Passed → Before
-  pub tree : v ≡ Passed → PlanOf J (tree_in kinds operands) kinds operands × WithinLimit limit (tree_in kinds operands)
+  pub passes : Before → (t : Tree Piece) → PlanOf J t kinds operands → WithinLimit limit t → v ≡ passed
+  pub before : v ≡ passed → Before
+  pub tree : v ≡ passed → PlanOf J (tree_in kinds operands) kinds operands × WithinLimit limit (tree_in kinds operands)
   pub only : (t : Tree Piece) → DrawnAs J t kinds operands → t ≡ tree_in kinds operands
-  pub areas : v ≡ Passed → (let a = tree_report J (tree_in kinds operands) in a.pieces + a.waste + a.trim + a.sawdust ≡ J.plate.0 * J.plate.1)
+  pub areas : v ≡ passed → (let a = tree_report J (tree_in kinds operands) in a.pieces + a.waste + a.trim + a.sawdust ≡ J.plate.0 * J.plate.1)
   pub first : Before → (t : Tree Piece) → DrawnAs J t kinds operands → v ≡ next (first_refusal (tree_checks 0 t)) (first_refusal (stage_checks limit t))
   pub old_table : ((t : Tree Piece) → DrawnAs J t kinds operands → IdleFree t) → v ≡ old
 

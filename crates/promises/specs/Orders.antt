@@ -1,21 +1,19 @@
 -- Whole orders: plans on several plates that hold one, and the plates that it needs; and the bound by multipliers of the lowered job.
 -- docs/SCOPE.md: Whole orders; Multipliers.
-use Rattle.std.specs.Prelude.{◌≡◌, true, false, not, List, [], ◌∷◌, ℕ, ◌+◌, ◌-◌, ◌*◌, ◌/◌, ◌≤◌, ◌<◌, ltb, eqb, length, get_or}
+use Rattle.std.specs.Prelude.{◌≡◌, true, false, not, List, [], ◌∷◌, ℕ, ◌+◌, ◌-◌, ◌*◌, ◌/◌, ◌≤◌, ◌<◌, ltb, eqb, length, get_or, Ok, Err}
 use Rattle.std.proofs.Math.Option.{none}
-use Rattle.promises.specs.Prelude.{Choices, Checked, Passed, BoundAnswer, PlatesReport, PlatesAnswer, LagrangianReport, LagrangianAnswer}
+use Rattle.promises.specs.Prelude.{Choices, PlatesReport, LagrangianReport}
 use Rattle.promises.specs.declared.Refusal.TheVariants.{MultiplierCount, Multiplier}
-use Rattle.promises.specs.declared.BoundAnswer.TheVariants as bound
-use Rattle.promises.specs.declared.PlatesAnswer.TheVariants as plates
-use Rattle.promises.specs.declared.LagrangianAnswer.TheVariants as lagrangian
 use Rattle.promises.specs.Lists.{sum, only}
-use Rattle.promises.specs.Refusals.{Check, next, first_refusal, each_kind, Outcome, refused_as, most_multiplier}
+use Rattle.promises.specs.Refusals.{Check, next, first_refusal, each_kind, most_multiplier, passed, Checked, Answer}
 use Rattle.promises.specs.Job.{Rect, Piece, Tree, Job, copies_of, plated, at_full_demand, capacity}
 use Rattle.promises.specs.Systems.{one_weight, bound_of, PlateHolds}
 use Rattle.promises.specs.Block.{block_job, weight_in}
-use Rattle.promises.specs.Call.{Form, Answers, Memory, storage_checks, Fills}
+use Rattle.promises.specs.Call.{Answers, Memory, storage_checks, Fills}
 use Rattle.promises.specs.Calls.{accepts, Accepted, bound_values, bound_report, BoundPromises}
 use Rattle.promises.specs.True.{NoneBetter, Relaxes, SameKinds}
 use Rattle.promises.specs.Rack.{AnyOnPlates, AnyOnFinerPlates, rack_profit}
+use Rattle.promises.specs.declared.BoundReport.{BoundReport}
 
 -- what holds of all plans on n plates, of any kinds of the job, cut at whole units, and at multiples of one m-th of a unit for every whole m of at least 1
 pub record OfPlans (J : Job) (n : ℕ) (plate : ℕ → Rect) (Of : (ℕ → Tree Piece) → Type 0) : Type 0 where
@@ -66,19 +64,12 @@ pub record Fewest (b c n : ℕ) : Type 0 where
 abbrev pub plates_values : PlatesReport → List ℕ
 plates_values b = b.plates ∷ b.bound ∷ b.worth ∷ []
 
-abbrev pub plates_outcome : PlatesAnswer → Outcome
-plates_outcome (plates.Answered b) = (0, plates_values b)
-plates_outcome (plates.Refused r) = refused_as r
-
-abbrev pub plates_form : Form PlatesAnswer PlatesReport
-plates_form = record { answered = plates.Answered; refused = plates.Refused; values = plates_values; outcome = plates_outcome }
-
 -- The plates that a whole order needs, beside other plates that earn at most `other`: the checks, the bound and the memory are the bound call's.
-pub record NeededPromises (s : List ℕ) (choices : Choices) (ws : List ℕ) (other : ℕ) (old new : Memory) (r : PlatesAnswer) : Type 0 where
-  pub bound : BoundAnswer
+pub record NeededPromises (s : List ℕ) (choices : Choices) (ws : List ℕ) (other : ℕ) (old new : Memory) (r : Answer PlatesReport) : Type 0 where
+  pub bound : Answer BoundReport
   pub bounds : BoundPromises s choices ws old new bound
   pub answers : (let J = block_job s choices in let b = bound_of J (weight_in ws) in
-      Answers plates_form (next (accepts s choices ws) (first_refusal (storage_checks J (one_weight (weight_in ws) J) old)))
+      Answers plates_values (next (accepts s choices ws) (first_refusal (storage_checks J (one_weight (weight_in ws) J) old)))
       (record { plates = plates_for b (order_worth J - other); bound = b; worth = order_worth J }) r)
   pub fewest : (let J = block_job s choices in let b = bound_of J (weight_in ws) in Fewest b (order_worth J - other) (plates_for b (order_worth J - other)))
   pub no_fewer : Accepted s choices ws → (let J = block_job s choices in NoFewer J (plates_for (bound_of J (weight_in ws)) (order_worth J - other)) other)
@@ -104,7 +95,7 @@ abbrev pub multiplied_verdict : List ℕ → Choices → List ℕ → List ℕ �
 multiplied_verdict s choices ws ms = next (accepts s choices ws) (first_refusal (multiplier_checks (block_job s choices).count ms))
 
 abbrev pub AllAccepted : List ℕ → Choices → List ℕ → List ℕ → Type 0
-AllAccepted s choices ws ms = multiplied_verdict s choices ws ms ≡ Passed
+AllAccepted s choices ws ms = multiplied_verdict s choices ws ms ≡ passed
 
 -- the Lagrangian bound: the lowered job's bound plus the sum, over the kinds, of demand times multiplier
 abbrev pub lagrangian_of : List ℕ → Choices → List ℕ → List ℕ → ℕ
@@ -114,26 +105,19 @@ lagrangian_of s choices ws ms = bound_of (lowered_job s choices ms) (weight_in w
 abbrev pub lagrangian_values : LagrangianReport → List ℕ
 lagrangian_values b = b.lagrangian ∷ bound_values b.lowered
 
-abbrev pub lagrangian_outcome : LagrangianAnswer → Outcome
-lagrangian_outcome (lagrangian.Answered b) = (0, lagrangian_values b)
-lagrangian_outcome (lagrangian.Refused r) = refused_as r
-
-abbrev pub lagrangian_form : Form LagrangianAnswer LagrangianReport
-lagrangian_form = record { answered = lagrangian.Answered; refused = lagrangian.Refused; values = lagrangian_values; outcome = lagrangian_outcome }
-
 -- the bound call's answer as this call's: the bound with nothing beside it
-abbrev pub as_lagrangian : BoundAnswer → LagrangianAnswer
-as_lagrangian (bound.Answered b) = lagrangian.Answered (record { lagrangian = b.bound; lowered = b })
-as_lagrangian (bound.Refused r) = lagrangian.Refused r
+abbrev pub as_lagrangian : Answer BoundReport → Answer LagrangianReport
+as_lagrangian (Ok b) = Ok (record { lagrangian = b.bound; lowered = b })
+as_lagrangian (Err r) = Err r
 
 -- The bound by multipliers: 1 to 9, 27 and 35, 37, 38, 19, 20; lists and table are the lowered job's. No tree that keeps every demand earns more,
 -- cut at whole units or finer, and at any true sizes that the job stands for. With all multipliers 0 it is the bound call.
-pub record LagrangianPromises (s : List ℕ) (choices : Choices) (ws ms : List ℕ) (old new : Memory) (r : LagrangianAnswer) : Type 0 where
+pub record LagrangianPromises (s : List ℕ) (choices : Choices) (ws ms : List ℕ) (old new : Memory) (r : Answer LagrangianReport) : Type 0 where
   pub answers : (let L = lowered_job s choices ms in let Y = one_weight (weight_in ws) L in
-      Answers lagrangian_form (next (multiplied_verdict s choices ws ms) (first_refusal (storage_checks L Y old)))
+      Answers lagrangian_values (next (multiplied_verdict s choices ws ms) (first_refusal (storage_checks L Y old)))
       (record { lagrangian = lagrangian_of s choices ws ms; lowered = bound_report L Y (capacity L (weight_in ws)) }) r)
   pub fills : Fills (AllAccepted s choices ws ms) (multiplied_verdict s choices ws ms) (lowered_job s choices ms) (one_weight (weight_in ws)) old new
   pub held : AllAccepted s choices ws ms → (let L = lowered_job s choices ms in PlateHolds L × (capacity L (weight_in ws) ≤ capacity (at_full_demand L) (weight_in ws)))
   pub demands : AllAccepted s choices ws ms → NoneBetter (block_job s choices) none (lagrangian_of s choices ws ms)
   pub modelled : AllAccepted s choices ws ms → (J : Job) → Relaxes J (block_job s choices) → NoneBetter J none (lagrangian_of s choices ws ms)
-  pub alone : length ms ≡ (block_job s choices).count → ((i : ℕ) → multiplier_in ms i ≡ 0) → (b : BoundAnswer) × BoundPromises s choices ws old new b × (r ≡ as_lagrangian b)
+  pub alone : length ms ≡ (block_job s choices).count → ((i : ℕ) → multiplier_in ms i ≡ 0) → (b : Answer BoundReport) × BoundPromises s choices ws old new b × (r ≡ as_lagrangian b)

@@ -1,19 +1,20 @@
 -- A rack of plates for one order: the plans stand one after another in two arrays and share the demands. The check, what it writes into the
 -- records, and what no set of plans can earn.
 -- docs/SCOPE.md: A rack of plates.
-use Rattle.std.specs.Prelude.{◌≡◌, ◌||◌, not, ◌↔◌, List, [], ◌∷◌, ◌++◌, ℕ, zero, suc, ◌+◌, ◌-◌, ◌≤◌, ◌<◌, ltb, eqb, length, take, drop, get_or, set, replicate}
+use Rattle.std.specs.Prelude.{◌≡◌, ◌||◌, not, ◌↔◌, List, [], ◌∷◌, ◌++◌, ℕ, zero, suc, ◌+◌, ◌-◌, ◌≤◌, ◌<◌, ltb, eqb, length, take, drop, get_or, set, replicate, Err}
 use Rattle.std.proofs.Math.Option.{none}
+use Rattle.std.specs.Result.{result_unwrap_or}
 use mathlib.Core.List.{map}
-use Rattle.promises.specs.Prelude.{Choices, Plate, RackAnswer, Checked, Passed, Refused}
+use Rattle.promises.specs.Prelude.{Choices, Plate}
 use Rattle.promises.specs.declared.Refusal.TheVariants.{RackSize, RackSide, RackDemand, IdleCut}
 use Rattle.promises.specs.Lists.{sum}
-use Rattle.promises.specs.Refusals.{Check, by_check, next, first_refusal, outside, each_kind, outcome_by, most_plates}
+use Rattle.promises.specs.Refusals.{Check, by_check, next, first_refusal, outside, each_kind, most_plates, verdict_of, passed, Checked, Answer}
 use Rattle.promises.specs.Job.{Rect, Piece, Tree, Job, AnyOnPlate, OnPlate, profit, copies_of, KeepsDemands, finer, plated}
 use Rattle.promises.specs.Plan.{kinds_of, operands_of, node_count, nodes_in, trees_in, first_tree, IdleFree, tree_checks}
 use Rattle.promises.specs.Systems.{NoneAbove, NoneFiner, bound_of}
 use Rattle.promises.specs.Block.{u16_at, sides_outside, order_checks, block_job, OnlyPlate}
 use Rattle.promises.specs.Check.{walked, left_check, plan_checks}
-use Rattle.promises.specs.Call.{Form, Answers}
+use Rattle.promises.specs.Call.{Answers}
 
 -- what a rack is checked on: the sides of its plates, and the arrays of its plans
 pub record Rack : Type 0 where
@@ -49,7 +50,7 @@ rack_walk J k i (suc m) n totals profits =
     let t = first_tree (trees_in (take (w.1 - n) nodes)) in
     by_check (next w.0 (next (first_refusal (tree_checks n t)) (first_refusal (total_checks J i totals t))))
     (rack_walk J k (i + 1) m w.1 (λ j. totals j + copies_of j t) (set profits i (profit J t)))
-    (λ x. (Refused x, profits))
+    (λ x. (Err x, profits))
 
 -- the verdict on a rack for a job block, and the profits of its plates in their order, 0 past the last
 abbrev pub rack_walked : List ℕ → Choices → Rack → Checked × List ℕ
@@ -84,7 +85,7 @@ RackOf J k tree = PlansOf J k (plates k) (plates k) tree ([], [])
 -- 26 at node n: the next plan after some that pass has its first idle cut in preorder there, nodes numbered throughout
 abbrev pub IdleAt : Job → Rack → ℕ → Type 0
 IdleAt J k n = (tree : ℕ → Tree Piece) × (i : ℕ) × (more : List ℕ × List ℕ) × (i < plates k) × PlansOf J k i (suc i) tree more
-    × (first_refusal (tree_checks (sum i (λ p. node_count (tree p))) (tree i)) ≡ Refused (IdleCut n))
+    × (first_refusal (tree_checks (sum i (λ p. node_count (tree p))) (tree i)) ≡ Err (IdleCut n))
 
 -- 29 at plate i: the plans before it pass, its own has no idle cut, and with it some kind's copies pass the demand
 abbrev pub OverAt : Job → Rack → ℕ → Type 0
@@ -121,25 +122,25 @@ rack_bound J n plate weight = sum n (λ p. bound_of (plated J (plate p)) (weight
 -- set of plans on the plates that share the demands earns more than the sum of these, cut at whole units or finer; so of the plates' bounds,
 -- each under weights of its own, which bound the plans that passed too
 pub record RackChecks (s : List ℕ) (choices : Choices) (k : Rack) (v : Checked) (profits : List ℕ) : Type 0 where
-  pub passes : first_refusal (rack_checks s choices k) ≡ Passed → (tree : ℕ → Tree Piece) → RackOf (block_job s choices) k tree → v ≡ Passed
-  pub before : v ≡ Passed → first_refusal (rack_checks s choices k) ≡ Passed
-  pub trees : v ≡ Passed → (tree : ℕ → Tree Piece) × RackOf (block_job s choices) k tree × ((p : ℕ) → p < plates k → get_or profits p 0 ≡ profit (block_job s choices) (tree p))
-  pub idle : (n : ℕ) → (v ≡ Refused (IdleCut n)) ↔ ((first_refusal (rack_checks s choices k) ≡ Passed) × IdleAt (block_job s choices) k n)
-  pub shared : (i : ℕ) → (v ≡ Refused (RackDemand i)) ↔ ((first_refusal (rack_checks s choices k) ≡ Passed) × OverAt (block_job s choices) k i)
-  pub unread : (z : List ℕ) → OnlyPlate s z → (v ≡ rack_verdict z choices k) × (v ≡ Passed → (rack_walked z choices k).1 ≡ profits)
+  pub passes : first_refusal (rack_checks s choices k) ≡ passed → (tree : ℕ → Tree Piece) → RackOf (block_job s choices) k tree → v ≡ passed
+  pub before : v ≡ passed → first_refusal (rack_checks s choices k) ≡ passed
+  pub trees : v ≡ passed → (tree : ℕ → Tree Piece) × RackOf (block_job s choices) k tree × ((p : ℕ) → p < plates k → get_or profits p 0 ≡ profit (block_job s choices) (tree p))
+  pub idle : (n : ℕ) → (v ≡ Err (IdleCut n)) ↔ ((first_refusal (rack_checks s choices k) ≡ passed) × IdleAt (block_job s choices) k n)
+  pub shared : (i : ℕ) → (v ≡ Err (RackDemand i)) ↔ ((first_refusal (rack_checks s choices k) ≡ passed) × OverAt (block_job s choices) k i)
+  pub unread : (z : List ℕ) → OnlyPlate s z → (v ≡ rack_verdict z choices k) × (v ≡ passed → (rack_walked z choices k).1 ≡ profits)
   pub other_plate : (z : List ℕ) → OnlyPlate s z → block_job z choices ≡ plated (block_job s choices) (u16_at z 0, u16_at z 2)
   pub any : (b : ℕ → ℕ) → ((p : ℕ) → p < plates k → NoneAbove (plated (block_job s choices) (plate_at k p)) none (b p)) → NoneTogether (block_job s choices) (plates k) (plate_at k) (sum (plates k) b)
   pub any_finer : (b : ℕ → ℕ) → ((p : ℕ) → p < plates k → NoneFiner (plated (block_job s choices) (plate_at k p)) none (b p)) → NoneTogetherFiner (block_job s choices) (plates k) (plate_at k) (sum (plates k) b)
-  pub bounds : first_refusal (order_checks s choices) ≡ Passed → (weight : ℕ → ℕ → ℕ) → NoneTogether (block_job s choices) (plates k) (plate_at k) (rack_bound (block_job s choices) (plates k) (plate_at k) weight)
-  pub finer : first_refusal (order_checks s choices) ≡ Passed → (weight : ℕ → ℕ → ℕ) → NoneTogetherFiner (block_job s choices) (plates k) (plate_at k) (rack_bound (block_job s choices) (plates k) (plate_at k) weight)
-  pub earned : v ≡ Passed → (weight : ℕ → ℕ → ℕ) → sum (plates k) (λ p. get_or profits p 0) ≤ rack_bound (block_job s choices) (plates k) (plate_at k) weight
+  pub bounds : first_refusal (order_checks s choices) ≡ passed → (weight : ℕ → ℕ → ℕ) → NoneTogether (block_job s choices) (plates k) (plate_at k) (rack_bound (block_job s choices) (plates k) (plate_at k) weight)
+  pub finer : first_refusal (order_checks s choices) ≡ passed → (weight : ℕ → ℕ → ℕ) → NoneTogetherFiner (block_job s choices) (plates k) (plate_at k) (rack_bound (block_job s choices) (plates k) (plate_at k) weight)
+  pub earned : v ≡ passed → (weight : ℕ → ℕ → ℕ) → sum (plates k) (λ p. get_or profits p 0) ≤ rack_bound (block_job s choices) (plates k) (plate_at k) weight
 
 -- The check on arrays of the plates' sides: 28, 1, 3, 27, 4 to 7, 35, 2, 10, 11, of each plan 12 to 17, 36, 26, 29, then 18. Its values are the profits.
-abbrev pub rack_form : Form RackAnswer (List ℕ)
-rack_form = record { answered = λ p. record { verdict = Passed; profits = p }; refused = λ x. record { verdict = Refused x; profits = replicate most_plates 0 }; values = λ p. p; outcome = λ a. outcome_by a.verdict a.profits }
+abbrev pub profits_values : List ℕ → List ℕ
+profits_values p = p
 
-abbrev pub PlatesPromises : List ℕ → Choices → Rack → RackAnswer → Type 0
-PlatesPromises s choices k r = Answers rack_form (rack_verdict s choices k) (rack_walked s choices k).1 r × RackChecks s choices k r.verdict r.profits
+abbrev pub PlatesPromises : List ℕ → Choices → Rack → Answer (List ℕ) → Type 0
+PlatesPromises s choices k r = Answers profits_values (rack_verdict s choices k) (rack_walked s choices k).1 r × RackChecks s choices k (verdict_of r) (result_unwrap_or r [])
 
 -- the records with the profits given, in their order
 abbrev pub paid : List Plate → List ℕ → List Plate

@@ -1,8 +1,8 @@
 -- The table of refusals: the limits of the scope, the number and the place of each case, and the rule that the first condition that holds
--- decides. A call's verdict is `Passed` or the first refusal of its checks.
+-- decides. A check's verdict is `passed` or the first refusal of its checks.
 -- docs/SCOPE.md: The table of refusals.
-use Rattle.std.specs.Prelude.{Bool, true, false, ◌||◌, List, [], ◌∷◌, ◌++◌, ℕ, zero, suc, ◌*◌, ltb}
-use Rattle.promises.specs.Prelude.{Refusal, Checked, Passed, Refused}
+use Rattle.std.specs.Prelude.{Bool, true, false, ◌||◌, List, [], ◌∷◌, ◌++◌, ℕ, zero, suc, ◌*◌, ltb, Ok, Err, Result}
+use Rattle.promises.specs.Prelude.{Refusal}
 use Rattle.promises.specs.declared.Refusal.TheVariants.{ShortHeader, PlateSide, RackSide, KindCount, BlockLength, KindSide, Price, Demand, WeightCount, Capacity, PlanLength, NodeCount, NodeKind, PieceNumber, Operand, Misfit, Excess, NodeMissing, NodeLeft, ListShort, TableShort, PlanLong, StageLimit, ManyStages, SecondCount, CapacityProduct, IdleCut, Kerf, RackSize, RackDemand, DemandProduct, SizesLength, TrueSize, NoModel, TrueMisfit, Grain, AgainstGrain, MultiplierCount, Multiplier}
 
 -- The greatest side of a plate or a piece, kerf, number of kinds, price, demand, weight, capacity; the most pairs of shares up to two
@@ -101,27 +101,46 @@ line_of (AgainstGrain k) = (36, k)
 line_of MultiplierCount = (37, 0)
 line_of (Multiplier k) = (38, k)
 
+-- an answer: a value, or the refusal; a check's has no value
+abbrev pub Answer : Type 0 → Type 0
+Answer A = Result A Refusal
+
+abbrev pub Checked : Type 0
+Checked = Answer Unit
+
+abbrev pub passed : Checked
+passed = Ok tt
+
 -- one check: whether its condition holds, and the refusal that it then draws
 abbrev pub Check : Type 0
 Check = Bool × Refusal
 
 -- refused where the condition holds
 abbrev pub refuse_when : Bool → Refusal → Checked
-refuse_when true r = Refused r
-refuse_when false r = Passed
+refuse_when true r = Err r
+refuse_when false r = passed
 
 -- what follows where a check passes, and else what its refusal gives
 abbrev pub by_check {ℓ} : {A : Type ℓ} → Checked → A → (Refusal → A) → A
-by_check Passed a refused = a
-by_check (Refused r) a refused = refused r
+by_check (Ok _) a refused = a
+by_check (Err r) a refused = refused r
 
 -- a check, and where it passes what follows
 abbrev pub next : Checked → Checked → Checked
-next a b = by_check a b Refused
+next a b = by_check a b Err
+
+-- the value where the checks pass, and else the refusal
+abbrev pub answer_by : {A : Type 0} → Checked → A → Answer A
+answer_by v a = by_check v (Ok a) Err
+
+-- whether an answer has a value, as a check's verdict
+abbrev pub verdict_of : {A : Type 0} → Answer A → Checked
+verdict_of (Ok a) = passed
+verdict_of (Err r) = Err r
 
 -- checks run down the list; the first condition that holds decides
 unfoldable pub first_refusal : List Check → Checked
-first_refusal [] = Passed
+first_refusal [] = passed
 first_refusal (c ∷ cs) = next (refuse_when c.0 c.1) (first_refusal cs)
 
 -- x lies outside lo to hi
@@ -144,3 +163,8 @@ refused_as r = ((line_of r).0, (line_of r).1 ∷ [])
 -- the values where the checks pass, and else the refusal
 abbrev pub outcome_by : Checked → List ℕ → Outcome
 outcome_by v values = by_check v (0, values) refused_as
+
+-- an answer's number and values
+abbrev pub outcome_of : {A : Type 0} → (A → List ℕ) → Answer A → Outcome
+outcome_of values (Ok a) = (0, values a)
+outcome_of values (Err r) = refused_as r

@@ -3,15 +3,16 @@
 -- docs/SCOPE.md: Weights found; The factor from a table.
 use Rattle.std.specs.Prelude.{◌≡◌, Bool, true, false, ◌||◌, not, List, [], ◌∷◌, ℕ, zero, suc, ◌+◌, ◌-◌, ◌*◌, ◌/◌, ◌^◌, ◌≤◌, ◌<◌, max, min, leb, ltb, eqb, get_or, replicate, take}
 use Rattle.std.proofs.Math.Option.{none}
-use Rattle.promises.specs.Prelude.{Choices, Checked, Passed, Refused, WeightsFound}
+use Rattle.std.specs.Result.{ForOk}
+use Rattle.promises.specs.Prelude.{Choices, WeightsFound}
 use Rattle.promises.specs.Lists.{range, sum, only, any, entries, pick_number}
-use Rattle.promises.specs.Refusals.{by_check, next, first_refusal, outcome_by, most_kinds, most_weight, most_capacity, most_rounds}
+use Rattle.promises.specs.Refusals.{by_check, next, first_refusal, most_kinds, most_weight, most_capacity, most_rounds, Answer, passed, Checked}
 use Rattle.promises.specs.Job.{Job, KeepsDemands, copies_of, capacity, profit}
 use Rattle.promises.specs.Plan.{tree_in, IdleFree}
 use Rattle.promises.specs.Systems.{one_weight, bound_of, bound_plan, NoneAbove, NoneFiner}
 use Rattle.promises.specs.Block.{block_job, weight_in}
 use Rattle.promises.specs.Check.{plan_verdict}
-use Rattle.promises.specs.Call.{Form, Answers, Memory, Arrays, storage_checks, nodes_check, ArraysLeft, Leaves}
+use Rattle.promises.specs.Call.{Answers, Memory, Arrays, storage_checks, nodes_check, ArraysLeft, Leaves}
 use Rattle.promises.specs.Calls.{reads, Accepted, Checks}
 
 -- the factor of a round in sixteenths: 2, halved after every third round; and the table of the factors of the eighteen rounds
@@ -117,22 +118,19 @@ best_round J lower zero = 0
 best_round J lower (suc n) = pick_number (ltb (bound_at J lower (suc n)) (bound_at J lower (best_round J lower n))) (suc n) (best_round J lower n)
 
 -- an answer: the bound, the rounds run and 64 weights; its values in that order; zeros where a check refuses
-abbrev pub answer_of : Checked → ℕ → ℕ → List ℕ → WeightsFound
-answer_of v bound rounds weights = record { verdict = v; bound = bound; rounds = rounds; weights = weights }
-
-abbrev pub found_form : Form WeightsFound WeightsFound
-found_form = record { answered = λ a. a; refused = λ x. answer_of (Refused x) 0 0 (replicate most_kinds 0); values = λ a. a.bound ∷ a.rounds ∷ a.weights; outcome = λ a. outcome_by a.verdict (a.bound ∷ a.rounds ∷ a.weights) }
+abbrev pub found_values : WeightsFound → List ℕ
+found_values a = a.bound ∷ a.rounds ∷ a.weights
 
 -- the answer of n rounds: the least bound met, n, and the weights that first gave the bound, 0 past the job's kinds
 unfoldable pub found : Job → ℕ → ℕ → WeightsFound
-found J lower zero = answer_of Passed 0 0 (replicate most_kinds 0)
-found J lower (suc n) = answer_of Passed (bound_at J lower (best_round J lower n)) (suc n) (entries (weight_at J lower (best_round J lower n)) J.count)
+found J lower zero = record { bound = 0; rounds = 0; weights = replicate most_kinds 0 }
+found J lower (suc n) = record { bound = bound_at J lower (best_round J lower n); rounds = suc n; weights = entries (weight_at J lower (best_round J lower n)) J.count }
 
 -- what the first n rounds leave, each as a writing call of its own would over the last
 abbrev pub RoundsLeave : Job → ℕ → ℕ → Lent → Lent → Type 0
 RoundsLeave J lower zero old new = new ≡ old
 RoundsLeave J lower (suc n) old new = (mid : Lent) × RoundsLeave J lower n old mid
-    × (let weight = weight_at J lower n in Leaves Passed J (one_weight weight J) mid.0 new.0 × ArraysLeft (round_verdict J weight mid) (bound_plan J weight) mid.1 new.1)
+    × (let weight = weight_at J lower n in Leaves passed J (one_weight weight J) mid.0 new.0 × ArraysLeft (round_verdict J weight mid) (bound_plan J weight) mid.1 new.1)
 
 -- what an answer says of the rounds run: it has the bound and the weights of one of them, none of them has a lesser bound, and each earlier
 -- one has a greater
@@ -161,16 +159,16 @@ pub record RoundHolds (J : Job) (lower k : ℕ) : Type 0 where
 -- Finding weights: 1 to 7, 27 and 35, 10 to 18, 36 and 26 of the lent plan, whose profit is the lower figure, then 19, 20 and 21 of round 0, which
 -- refuse the call; later they end it. All rounds begun leave memory, also a last one that is refused; nothing is changed where a check before
 -- them refuses. The answered weights are accepted, and give the answered bound again; no tree that keeps every demand earns more
-pub record FindPromises (s : List ℕ) (choices : Choices) (plan : Arrays) (old new : Lent) (r : WeightsFound) : Type 0 where
+pub record FindPromises (s : List ℕ) (choices : Choices) (plan : Arrays) (old new : Lent) (r : Answer WeightsFound) : Type 0 where
   pub answers : (let J = block_job s choices in let lower = profit J (tree_in plan.0 plan.1) in
-      Answers found_form (next (next (reads none s choices) (plan_verdict J none plan.0 plan.1)) (round_verdict J (weight_at J lower 0) old)) (found J lower (rounds_run J lower old)) r)
+      Answers found_values (next (next (reads none s choices) (plan_verdict J none plan.0 plan.1)) (round_verdict J (weight_at J lower 0) old)) (found J lower (rounds_run J lower old)) r)
   pub memory : (let J = block_job s choices in let lower = profit J (tree_in plan.0 plan.1) in
       by_check (next (reads none s choices) (plan_verdict J none plan.0 plan.1)) (RoundsLeave J lower (suc (last_round J lower old)) old new) (λ x. new ≡ old))
   pub judged : Checks (reads none s choices) (block_job s choices) none plan.0 plan.1
-  pub least : r.verdict ≡ Passed → LeastMet (block_job s choices) (profit (block_job s choices) (tree_in plan.0 plan.1)) r
-  pub again : r.verdict ≡ Passed → (let J = block_job s choices in Accepted s choices (take J.count r.weights) × (r.bound ≡ bound_of J (weight_in (take J.count r.weights))))
-  pub rounds : r.rounds ≤ most_rounds
-  pub each : r.verdict ≡ Passed → (k : ℕ) → k < r.rounds → RoundHolds (block_job s choices) (profit (block_job s choices) (tree_in plan.0 plan.1)) k
-  pub demands : r.verdict ≡ Passed → NoneAbove (block_job s choices) none r.bound × NoneFiner (block_job s choices) none r.bound
+  pub least : ForOk r (LeastMet (block_job s choices) (profit (block_job s choices) (tree_in plan.0 plan.1)))
+  pub again : ForOk r (λ a. let J = block_job s choices in Accepted s choices (take J.count a.weights) × (a.bound ≡ bound_of J (weight_in (take J.count a.weights))))
+  pub rounds : ForOk r (λ a. a.rounds ≤ most_rounds)
+  pub each : ForOk r (λ a. (k : ℕ) → k < a.rounds → RoundHolds (block_job s choices) (profit (block_job s choices) (tree_in plan.0 plan.1)) k)
+  pub demands : ForOk r (λ a. NoneAbove (block_job s choices) none a.bound × NoneFiner (block_job s choices) none a.bound)
   pub steps : StepRules
   pub stop : StopRules (block_job s choices) (profit (block_job s choices) (tree_in plan.0 plan.1)) old

@@ -4,18 +4,18 @@
 use Rattle.std.specs.Prelude.{◌≡◌, Bool, ◌||◌, not, ◌↔◌, List, [], ◌∷◌, ℕ, ◌+◌, ◌*◌, ◌≤◌, ◌<◌, T, ltb, eqb, length, get_or}
 use Rattle.std.proofs.Math.Option.{Option, none}
 use mathlib.Core.List.{Memᴰ as List-as-Memᴰ}
-use Rattle.promises.specs.Prelude.{Direction, Length, Width, Choices, Checked, Passed, TruePlanAnswer}
+use Rattle.promises.specs.Prelude.{Direction, Length, Width, Choices}
 use Rattle.promises.specs.declared.Refusal.TheVariants.{SizesLength, TrueSize, NoModel, TrueMisfit}
-use Rattle.promises.specs.declared.TruePlanAnswer.TheVariants as true_plan
 use Rattle.promises.specs.Lists.{only, entries}
-use Rattle.promises.specs.Refusals.{Check, next, first_refusal, outside, each_kind, Outcome, refused_as, most_true_side, most_true_kerf}
+use Rattle.promises.specs.Refusals.{Check, next, first_refusal, outside, each_kind, most_true_side, most_true_kerf, passed, Checked, Answer}
 use Rattle.promises.specs.Job.{Rect, side, Piece, kind, Tree, Job, laid, turns, MayLie, OnPlate, profit, copies_of, KeepsDemands, stages, WithinLimit}
 use Rattle.promises.specs.Plan.{node_count, tree_in, used, neat_of}
 use Rattle.promises.specs.Systems.{NoneAbove, NoneFiner}
 use Rattle.promises.specs.Block.{u32_at, job_checks, block_job}
 use Rattle.promises.specs.Check.{plan_verdict}
-use Rattle.promises.specs.Call.{Form, Answers, Arrays, nodes_check, ArraysLeft}
+use Rattle.promises.specs.Call.{Answers, Arrays, nodes_check, ArraysLeft}
 use Rattle.promises.specs.Calls.{Checks}
+use Rattle.promises.specs.declared.TrueReport.{TrueReport}
 
 -- one of two true sides lies outside 1 to 100,000,000
 abbrev pub true_sides_outside : ℕ → ℕ → Bool
@@ -110,8 +110,8 @@ pub record ModelPromises (s : List ℕ) (choices : Choices) (z : List ℕ) (r : 
   pub fits : Direction → Bool
   pub directions : (d : Direction) → T (fits d) ↔ ChainsFitIn (block_true_job s choices z) (block_job s choices) d
   pub answers : r ≡ next (true_verdict s choices z) (first_refusal ((not (fits Length), NoModel 0) ∷ (not (fits Width), NoModel 1) ∷ []))
-  pub exactly : true_verdict s choices z ≡ Passed → (r ≡ Passed) ↔ ChainsFit (block_true_job s choices z) (block_job s choices)
-  pub stands : r ≡ Passed → StandsFor (block_job s choices) (block_true_job s choices z)
+  pub exactly : true_verdict s choices z ≡ passed → (r ≡ passed) ↔ ChainsFit (block_true_job s choices z) (block_job s choices)
+  pub stands : r ≡ passed → StandsFor (block_job s choices) (block_true_job s choices z)
 
 -- the used size of a job's tree
 abbrev pub used_of : Job → Tree Piece → Rect
@@ -133,12 +133,8 @@ pub record TruePlan (M J : Job) (t : Tree Piece) : Type 0 where
       → OnPlate J (neat_of J t) × WithinLimit limit (neat_of J t) × KeepsDemands J (neat_of J t) × NoneBetter J limit (profit J (neat_of J t))
 
 -- an answer: the node count, the used length and the used width
-abbrev pub true_outcome : TruePlanAnswer → Outcome
-true_outcome (true_plan.Written n l w) = (0, n ∷ l ∷ w ∷ [])
-true_outcome (true_plan.Refused r) = refused_as r
-
-abbrev pub true_form : Form TruePlanAnswer (ℕ × Rect)
-true_form = record { answered = λ s. true_plan.Written s.0 s.1.0 s.1.1; refused = true_plan.Refused; values = λ s. s.0 ∷ s.1.0 ∷ s.1.1 ∷ []; outcome = true_outcome }
+abbrev pub true_values : TrueReport → List ℕ
+true_values t = t.nodes ∷ t.length ∷ t.width ∷ []
 
 -- the verdict of the true plan: the two blocks', the model's on the plan, then 34, the used size is more than the plate, along the length and
 -- then along the width, and 21
@@ -150,10 +146,10 @@ true_plan_verdict s choices z plan old =
     (first_refusal ((ltb J.plate.0 (used_of J t).0, TrueMisfit 0) ∷ (ltb J.plate.1 (used_of J t).1, TrueMisfit 1) ∷ nodes_check (neat_of J t) old ∷ [])))
 
 -- The true plan of a model's plan: the output arrays then hold it; a refused call changes neither. The model's plan is judged as its check judges it.
-pub record TruePromises (s : List ℕ) (choices : Choices) (z : List ℕ) (plan old new : Arrays) (r : TruePlanAnswer) : Type 0 where
+pub record TruePromises (s : List ℕ) (choices : Choices) (z : List ℕ) (plan old new : Arrays) (r : Answer TrueReport) : Type 0 where
   pub answers : (let J = block_true_job s choices z in let t = tree_in plan.0 plan.1 in
-      Answers true_form (true_plan_verdict s choices z plan old) (node_count (neat_of J t), used_of J t) r)
+      Answers true_values (true_plan_verdict s choices z plan old) (record { nodes = node_count (neat_of J t); length = (used_of J t).0; width = (used_of J t).1 }) r)
   pub arrays : ArraysLeft (true_plan_verdict s choices z plan old) (neat_of (block_true_job s choices z) (tree_in plan.0 plan.1)) old new
   pub judged : Checks (true_verdict s choices z) (block_job s choices) none plan.0 plan.1
-  pub fits : true_plan_verdict s choices z plan old ≡ Passed → FitsIn (used_of (block_true_job s choices z) (tree_in plan.0 plan.1)) (block_true_job s choices z).plate
-  pub holds : next (true_verdict s choices z) (plan_verdict (block_job s choices) none plan.0 plan.1) ≡ Passed → TruePlan (block_job s choices) (block_true_job s choices z) (tree_in plan.0 plan.1)
+  pub fits : true_plan_verdict s choices z plan old ≡ passed → FitsIn (used_of (block_true_job s choices z) (tree_in plan.0 plan.1)) (block_true_job s choices z).plate
+  pub holds : next (true_verdict s choices z) (plan_verdict (block_job s choices) none plan.0 plan.1) ≡ passed → TruePlan (block_job s choices) (block_true_job s choices z) (tree_in plan.0 plan.1)

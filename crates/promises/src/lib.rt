@@ -1,4 +1,4 @@
-// What the calls take and answer: the types that every contract names. No code: specs/ has what is promised of them.
+// What the calls take and report: the types that every contract names. A call answers a `Result` whose error is the refusal. No code: specs/ has what is promised of them.
 #![tactic(auto)]
 
 // What a cut divides: the length or the width.
@@ -61,13 +61,6 @@ pub enum Refusal {
     Multiplier(u16),
 }
 
-// What a check answers: passed, or the first refusal met.
-#[derive(Clone, Copy, Drop)]
-pub enum Checked {
-    Passed,
-    Refused(Refusal),
-}
-
 // What a call chooses beside the job: whether pieces may be turned, whether the capacity is that of the full demands, whether the block is
 // the old one, which has no kerf, and whether it says of each kind if it keeps its grain.
 #[derive(Clone, Copy, Drop)]
@@ -95,13 +88,6 @@ pub struct JobRecord {
     pub grains: [u8; 64],
 }
 
-// What reading a job block answers: where it is refused, the record is empty.
-#[derive(Clone, Copy, Drop)]
-pub struct JobAnswer {
-    pub verdict: Checked,
-    pub job: JobRecord,
-}
-
 // What a passed plan reports: profit, copies of each kind, and the four areas.
 #[derive(Clone, Copy, Drop)]
 pub struct Report {
@@ -113,17 +99,9 @@ pub struct Report {
     pub sawdust: u64,
 }
 
-// What the check of a plan answers: where it is refused, the report is all zeros.
+// What the staged check reports: the stages besides.
 #[derive(Clone, Copy, Drop)]
-pub struct PlanAnswer {
-    pub verdict: Checked,
-    pub report: Report,
-}
-
-// What the staged check answers: the stages besides.
-#[derive(Clone, Copy, Drop)]
-pub struct StagedAnswer {
-    pub verdict: Checked,
+pub struct StagedReport {
     pub report: Report,
     pub stages: u8,
 }
@@ -136,13 +114,6 @@ pub struct SawReport {
     pub waste: u64,
     pub trim: u64,
     pub sawdust: u64,
-}
-
-// What the saw's check answers.
-#[derive(Clone, Copy, Drop)]
-pub struct SawAnswer {
-    pub verdict: Checked,
-    pub report: SawReport,
 }
 
 // A part of an array: from its first entry up to one that is not in it.
@@ -161,13 +132,6 @@ pub struct BoundReport {
     pub columns: u16,
 }
 
-// What the bound calls answer.
-#[derive(Clone, Copy, Drop)]
-pub enum BoundAnswer {
-    Answered(BoundReport),
-    Refused(Refusal),
-}
-
 // What the bound of two weights reports.
 #[derive(Clone, Copy, Drop)]
 pub struct TwoReport {
@@ -178,25 +142,11 @@ pub struct TwoReport {
     pub columns: u16,
 }
 
-// What it answers.
-#[derive(Clone, Copy, Drop)]
-pub enum TwoAnswer {
-    Answered(TwoReport),
-    Refused(Refusal),
-}
-
 // What the bound by multipliers reports: the Lagrangian bound, and what the bound call reports of the lowered job.
 #[derive(Clone, Copy, Drop)]
 pub struct LagrangianReport {
     pub lagrangian: u64,
     pub lowered: BoundReport,
-}
-
-// What it answers.
-#[derive(Clone, Copy, Drop)]
-pub enum LagrangianAnswer {
-    Answered(LagrangianReport),
-    Refused(Refusal),
 }
 
 // What the call for whole orders reports: the plates needed, the bound of one, and what the order is worth.
@@ -205,13 +155,6 @@ pub struct PlatesReport {
     pub plates: u64,
     pub bound: u64,
     pub worth: u64,
-}
-
-// What it answers.
-#[derive(Clone, Copy, Drop)]
-pub enum PlatesAnswer {
-    Answered(PlatesReport),
-    Refused(Refusal),
 }
 
 // What the writing call reports: the bound's report and the number of nodes.
@@ -224,25 +167,12 @@ pub struct WriteReport {
     pub nodes: u64,
 }
 
-// What it answers.
+// What the call of the true plan reports: the number of the true plan's nodes, which it has written, and its used length and width.
 #[derive(Clone, Copy, Drop)]
-pub enum WriteAnswer {
-    Written(WriteReport),
-    Refused(Refusal),
-}
-
-// What the neat call answers: the number of nodes.
-#[derive(Clone, Copy, Drop)]
-pub enum NeatAnswer {
-    Written(u64),
-    Refused(Refusal),
-}
-
-// What the call of the true plan answers: the number of the true plan's nodes, which it has written, and its used length and width.
-#[derive(Clone, Copy, Drop)]
-pub enum TruePlanAnswer {
-    Written(u64, u64, u64),
-    Refused(Refusal),
+pub struct TrueReport {
+    pub nodes: u64,
+    pub length: u64,
+    pub width: u64,
 }
 
 // What the exact call reports: the optimum, the number of states, p, r and the number of nodes.
@@ -255,25 +185,16 @@ pub struct ExactReport {
     pub nodes: u64,
 }
 
-// What it answers.
-#[derive(Clone, Copy, Drop)]
-pub enum ExactAnswer {
-    Answered(ExactReport),
-    Refused(Refusal),
-}
-
-// What the certificates answer: best with the profit, or the profit and the gap.
+// What a certificate says of a plan: best with the profit, or the profit and the gap.
 #[derive(Clone, Copy, Drop)]
 pub enum Certificate {
     Best(u64),
     Gap(u64, u64),
-    Refused(Refusal),
 }
 
-// What the call that finds weights answers: zeros where it is refused.
+// The weights that the rounds found, with their bound and the number of rounds.
 #[derive(Clone, Copy, Drop)]
 pub struct WeightsFound {
-    pub verdict: Checked,
     pub bound: u64,
     pub rounds: u16,
     pub weights: [u8; 64],
@@ -285,11 +206,4 @@ pub struct Plate {
     pub length: u16,
     pub width: u16,
     pub profit: u64,
-}
-
-// What the check of a rack on arrays answers: the profits of 16 plates, zeros where it is refused.
-#[derive(Clone, Copy, Drop)]
-pub struct RackAnswer {
-    pub verdict: Checked,
-    pub profits: [u64; 16],
 }

@@ -1,9 +1,10 @@
 -- The call on the arrays of the plates' sides: what the checks before any plan's leave known, and all that is promised of an answer that
 -- equals the definition.
-use Rattle.rack.proofs.Prelude.{◌≡◌, ◌∙◌, refl, sym, ap, subst, inl, inr, ⊎_elim, List, [], ◌∷◌, ◌++◌, map, map-map, map-append, ℕ, zero, suc, ◌+◌, ◌≤◌, ◌<◌, zero-add, arith, length, get_or, set, replicate, length-append, length-replicate, get_or-replicate, sum, Rect, Tree, Piece, preorder, node_count, kinds_of, operands_of, Job, OnPlate, profit, SolidKinds, any_on, sum_le, number_of, place_of, next, first_refusal, outcome_by, Refusal, IdleCut, RackDemand, Checked, Passed, Refused, Choices, JobRecord, count_at, plateless_checks, pair_checks, record_of, job_of, HoldsBlock, block_job, Counts, plateless_passed, counts_hold, block_passed, pairs_range, pair_of, tree_checks, nodes_in, left_check, plan_checks, no_pass, written, firsts, seconds, arrays_written, kinds_length, operands_length, whole_counts, RackAnswer, plate_at, rack_size_check, order_checks, plate_checks, rack_checks, own_answer, total_checks, with_own, rack_passed, rack_stopped, rack_by, rack_walk, plans_answer, rack_answer, rack_outcome, OrderPasses, BeforePasses, RackOf, RackUpTo, IdleAt, OverAt, RackChecks, PlatesPromises, plated, SharesDemands, chained, rack_keeps, any_together, any_finer, rack_holds, rack_finer}
+use Rattle.rack.proofs.Prelude.{◌≡◌, ◌∙◌, refl, sym, ap, subst, inl, inr, ⊎_elim, List, [], ◌∷◌, ◌++◌, map, map-map, map-append, ℕ, zero, suc, ◌+◌, ◌≤◌, ◌<◌, zero-add, arith, length, get_or, replicate, length-append, length-replicate, get_or-replicate, sum, Rect, Tree, Piece, preorder, node_count, kinds_of, operands_of, Job, OnPlate, profit, SolidKinds, any_on, sum_le, number_of, place_of, first_refusal, Refusal, IdleCut, RackDemand, Choices, JobRecord, count_at, plateless_checks, pair_checks, record_of, job_of, HoldsBlock, block_job, Counts, plateless_passed, counts_hold, block_passed, pairs_range, pair_of, tree_checks, nodes_in, plan_checks, written, firsts, seconds, arrays_written, kinds_length, operands_length, whole_counts, plate_at, rack_size_check, order_checks, plate_checks, rack_checks, by_check, verdict_of, proceed, proceed_passed, proceed_value, IsErrAnd, handed, plans_answer, rack_answer, rack_outcome, OrderPasses, BeforePasses, RackOf, RackUpTo, IdleAt, OverAt, RackChecks, PlatesPromises, plated, SharesDemands, chained, rack_keeps, any_together, any_finer, rack_holds, rack_finer, Ok, Err, passed, Checked, Answer}
 use Rattle.rack.proofs.Before.{before_passed, size_passed}
 use Rattle.rack.proofs.Numbers.{before_gives, tree_gives}
-use Rattle.rack.proofs.Trees.{by_passed, racked, passing}
+use Rattle.rack.proofs.Trees.{racked, passing}
+use Rattle.refusal.specs.Refusals.{refused_as}
 use Rattle.rack.proofs.Refused.{Either, by_refused, Met, Stopped, stopped, stops}
 use Rattle.rack.proofs.Unread.{same_job, same_answer}
 
@@ -47,27 +48,10 @@ chained_same (suc n) tree = omega (
   chained_same n (λ p. tree (suc p)),
 )
 
--- a refused rack has no profits
-abbrev Zeroed : RackAnswer → Type 0
-Zeroed a = (x : Refusal) → a.verdict ≡ Refused x → a.profits ≡ replicate 16 0
-
-by_zeros : (v : Checked) (a : RackAnswer) → Zeroed a → Zeroed (rack_by v a)
-by_zeros Passed a h = h
-by_zeros (Refused r) a h = λ x p. refl
-
-walk_zeros : (J : Job) (plate : ℕ → Rect) (kinds operands : List ℕ) (i m k : ℕ) (totals profits : List ℕ) → Zeroed (rack_walk J plate kinds operands i m k totals profits)
-unfolding rack_walk
-walk_zeros J plate kinds operands i zero k totals profits = by_zeros (first_refusal (left_check (length kinds) k ∷ [])) (rack_passed profits) (λ y q. no_pass (sym q))
-walk_zeros J plate kinds operands i (suc m) k totals profits =
-    let a = own_answer (plated J (plate i)) kinds operands k in
-    let totals' = with_own totals a.report.copies J.count in
-    let profits' = set profits i a.report.profit in
-    by_zeros (next a.verdict (first_refusal (total_checks J i totals a.report.copies))) (rack_walk J plate kinds operands (i + 1) m a.past totals' profits') (walk_zeros J plate kinds operands (i + 1) m a.past totals' profits')
-
 -- the number and values of an answer that follows a check
-outcome_after : (v : Checked) (a : RackAnswer) → rack_outcome (rack_by v a) ≡ outcome_by (next v a.verdict) a.profits
-outcome_after Passed a = refl
-outcome_after (Refused r) a = refl
+outcome_after : (v : Checked) (a : Answer (List ℕ)) → rack_outcome (proceed v a) ≡ by_check v (rack_outcome a) refused_as
+outcome_after (Ok _) a = refl
+outcome_after (Err r) a = refl
 
 module _ (s : List ℕ) (choices : Choices) where
   abbrev J : Job
@@ -98,14 +82,14 @@ module _ (s : List ℕ) (choices : Choices) where
     abbrev plate : ℕ → Rect
     plate = plate_at lengths widths
 
-    abbrev plans : RackAnswer
+    abbrev plans : Answer (List ℕ)
     plans = plans_answer J plate n kinds operands
 
     abbrev before : Checked
     before = first_refusal (rack_checks s choices lengths widths kinds operands)
 
     module _ (b : BeforePasses s choices lengths widths kinds operands) where
-      parts : (first_refusal (rack_size_check lengths widths ∷ []) ≡ Passed) × OrderPasses s choices × (first_refusal (plate_checks plate n) ≡ Passed) × (first_refusal (plan_checks kinds operands) ≡ Passed)
+      parts : (first_refusal (rack_size_check lengths widths ∷ []) ≡ passed) × OrderPasses s choices × (first_refusal (plate_checks plate n) ≡ passed) × (first_refusal (plan_checks kinds operands) ≡ passed)
       parts = before_passed s choices lengths widths kinds operands b
 
       -- plans that are refused with x at a tree
@@ -116,9 +100,9 @@ module _ (s : List ℕ) (choices : Choices) where
       none_yet j l = get_or-replicate {A = ℕ} 64 j 0 0 (omega (arith, l, order_few parts.1))
 
       -- plans that pass are trees'
-      drawn : plans.verdict ≡ Passed → (tree : ℕ → Tree Piece) × RackOf J n plate tree kinds operands × ((p : ℕ) → p < n → get_or plans.profits p 0 ≡ profit J (tree p))
+      drawn : {given : List ℕ} → plans ≡ Ok given → (tree : ℕ → Tree Piece) × RackOf J n plate tree kinds operands × ((p : ℕ) → p < n → get_or given p 0 ≡ profit J (tree p))
       unfolding plans_answer
-      drawn p =
+      drawn {given} p =
           let same = (whole_counts kinds operands parts.3).0 in
           let t = racked J (order_few parts.1) plate kinds operands same n 0 0 (replicate 64 0) (replicate 16 0) (length-replicate {A = ℕ} 64 0) (length-replicate {A = ℕ} 16 0) (omega (arith, (size_passed lengths widths parts.0).2))
           (λ j l. omega (arith, none_yet j l)) p in
@@ -133,11 +117,11 @@ module _ (s : List ℕ) (choices : Choices) where
               kinds_are = sym (firsts kinds operands same) ∙ ap (map (λ q. q.0)) nodes ∙ map_chained (λ q. q.0) n (λ q. written (t.tree q)) ∙ (λ i. chained n (λ q. written_first (t.tree q) i));
               operands_are = sym (seconds kinds operands same) ∙ ap (map (λ q. q.1)) nodes ∙ map_chained (λ q. q.1) n (λ q. written (t.tree q)) ∙ (λ i. chained n (λ q. written_second (t.tree q) i));
             },
-            λ q l. ap (λ i. get_or plans.profits i 0) (sym (zero-add q)) ∙ t.paid q l,
+            λ q l. ap (λ i. get_or given i 0) (sym (zero-add q)) ∙ t.paid q l,
           )
 
       -- and the other way
-      judged : (tree : ℕ → Tree Piece) → RackOf J n plate tree kinds operands → plans.verdict ≡ Passed
+      judged : (tree : ℕ → Tree Piece) → RackOf J n plate tree kinds operands → verdict_of plans ≡ passed
       unfolding plans_answer
       judged tree t =
           passing J (order_few parts.1) plate kinds operands (whole_counts kinds operands parts.3).0 n 0 0 (replicate 64 0) (replicate 16 0) tree (length-replicate {A = ℕ} 64 0)
@@ -145,7 +129,7 @@ module _ (s : List ℕ) (choices : Choices) where
           ((λ i. nodes_in (t.kinds_are i) (t.operands_are i)) ∙ nodes_chained n tree)
 
       -- plans that are refused with 26 or 29 are trees' up to there
-      halted : (x : Refusal) → Either x → plans.verdict ≡ Refused x → Halted x
+      halted : (x : Refusal) → Either x → verdict_of plans ≡ Err x → Halted x
       unfolding plans_answer
       halted x kind p = stopped J (order_few parts.1) plate kinds operands (whole_counts kinds operands parts.3).0 n 0 0 (replicate 64 0) (replicate 16 0) x (length-replicate {A = ℕ} 64 0) (λ j l. omega (arith, none_yet j l)) kind p
 
@@ -170,19 +154,19 @@ module _ (s : List ℕ) (choices : Choices) where
             );
           }
 
-      idle_told : (k : ℕ) → plans.verdict ≡ Refused (IdleCut k) → IdleAt J n plate kinds operands k
+      idle_told : (k : ℕ) → verdict_of plans ≡ Err (IdleCut k) → IdleAt J n plate kinds operands k
       idle_told k p =
           let u = halted (IdleCut k) (inl refl) p in
           (u.tree, u.at, u.inside, up_to u, ⊎_elim (λ e. ap (λ m. first_refusal (tree_checks m (u.tree u.at))) (sym (zero-add (sum u.at (λ q. node_count (u.tree q))))) ∙ e) (λ e. absurd (let z = ap number_of e.1 in omega (arith, z))) u.met)
 
-      over_told : (i : ℕ) → plans.verdict ≡ Refused (RackDemand i) → OverAt J n plate kinds operands i
+      over_told : (i : ℕ) → verdict_of plans ≡ Err (RackDemand i) → OverAt J n plate kinds operands i
       over_told i p = let u = halted (RackDemand i) (inr refl) p in ⊎_elim
           (λ e. absurd (let z = tree_gives (u.tree u.at) (0 + sum u.at (λ q. node_count (u.tree q))) (RackDemand i) e in omega (arith, z)))
           (λ e. (let z : u.at ≡ i = (let y = ap place_of e.1 in omega (arith, y)) in
           subst (OverAt J n plate kinds operands) z (u.tree, u.inside, up_to u, e.0, (e.2.0, e.2.1, omega (arith, e.2.2, none_yet e.2.0 e.2.1))))) u.met
 
       -- and the other way
-      halts : (tree : ℕ → Tree Piece) (i : ℕ) → i < n → RackUpTo J i plate tree kinds operands → (x : Refusal) → Met J (order_few parts.1) plate kinds operands (whole_counts kinds operands parts.3).0 0 0 (replicate 64 0) tree i x → plans.verdict ≡ Refused x
+      halts : (tree : ℕ → Tree Piece) (i : ℕ) → i < n → RackUpTo J i plate tree kinds operands → (x : Refusal) → Met J (order_few parts.1) plate kinds operands (whole_counts kinds operands parts.3).0 0 0 (replicate 64 0) tree i x → verdict_of plans ≡ Err x
       unfolding plans_answer
       halts tree i l t x met =
           stops J (order_few parts.1) plate kinds operands (whole_counts kinds operands parts.3).0 i n 0 0 (replicate 64 0) (replicate 16 0) tree (nodes_in t.kinds_begin.0 t.operands_begin.0) x l (length-replicate {A = ℕ} 64 0)
@@ -190,49 +174,48 @@ module _ (s : List ℕ) (choices : Choices) where
           ((λ j. nodes_in (t.kinds_begin.1 j) (t.operands_begin.1 j)) ∙ nodes_append (chained (suc i) (λ p. kinds_of (tree p))) (chained (suc i) (λ p. operands_of (tree p))) t.kinds_begin.0 t.operands_begin.0 (chained_same (suc i) tree)
           ∙ ap (λ l. l ++ nodes_in t.kinds_begin.0 t.operands_begin.0) (nodes_chained (suc i) tree)) met
 
-      idle_halts : (k : ℕ) → IdleAt J n plate kinds operands k → plans.verdict ≡ Refused (IdleCut k)
+      idle_halts : (k : ℕ) → IdleAt J n plate kinds operands k → verdict_of plans ≡ Err (IdleCut k)
       idle_halts k t = halts t.0 t.1 t.2 t.3 (IdleCut k) (inl (ap (λ m. first_refusal (tree_checks m (t.0 t.1))) (zero-add (sum t.1 (λ q. node_count (t.0 q)))) ∙ t.4))
 
-      over_halts : (i : ℕ) → OverAt J n plate kinds operands i → plans.verdict ≡ Refused (RackDemand i)
+      over_halts : (i : ℕ) → OverAt J n plate kinds operands i → verdict_of plans ≡ Err (RackDemand i)
       over_halts i t = halts t.0 i t.1 t.2 (RackDemand i) (inr (t.3, ap RackDemand (sym (zero-add i)), (t.4.0, t.4.1, omega (arith, t.4.2, none_yet t.4.0 t.4.1))))
 
     -- a rack that is refused with 26 or 29 passes the checks before any plan's
-    past_before : (x : Refusal) → Either x → (rack_by before plans).verdict ≡ Refused x → BeforePasses s choices lengths widths kinds operands × (plans.verdict ≡ Refused x)
+    past_before : (x : Refusal) → Either x → verdict_of (proceed before plans) ≡ Err x → BeforePasses s choices lengths widths kinds operands × (verdict_of plans ≡ Err x)
     past_before x kind p = ⊎_elim (λ e. (let n = before_gives s choices lengths widths kinds operands x e in absurd (⊎_elim n.0 n.1 kind))) (λ e. e) (by_refused before plans p)
 
     -- a rack that passes is that of trees
-    trees : (rack_by before plans).verdict ≡ Passed → (tree : ℕ → Tree Piece) × RackOf J n plate tree kinds operands × ((p : ℕ) → p < n → get_or (rack_by before plans).profits p 0 ≡ profit J (tree p))
-    trees p = let b = by_passed before plans p in let t = drawn b.0 b.1 in (t.0, t.1, λ q l. ap (λ v. get_or (rack_by v plans).profits q 0) b.0 ∙ t.2 q l)
+    trees : {given : List ℕ} → proceed before plans ≡ Ok given → (tree : ℕ → Tree Piece) × RackOf J n plate tree kinds operands × ((p : ℕ) → p < n → get_or given p 0 ≡ profit J (tree p))
+    trees p = let b = proceed_value before plans p in drawn b.0 b.1
 
-    checked : RackChecks s choices lengths widths kinds operands (rack_by before plans)
+    checked : RackChecks s choices lengths widths kinds operands (proceed before plans)
     unfolding plans_answer
     checked =
         record {
-          passes = λ b tree t. ap (λ v. (rack_by v plans).verdict) b ∙ judged b tree t;
-          before = λ p. (by_passed before plans p).0;
-          trees = trees;
-          zeros = by_zeros before plans (walk_zeros J plate kinds operands 0 n 0 _ _);
-          idle = λ k. ((λ p. (let b = past_before (IdleCut k) (inl refl) p in (b.0, idle_told b.0 k b.1))), λ t. ap (λ v. (rack_by v plans).verdict) t.0 ∙ idle_halts t.0 k t.1);
-          shared = λ i. ((λ p. (let b = past_before (RackDemand i) (inr refl) p in (b.0, over_told b.0 i b.1))), λ t. ap (λ v. (rack_by v plans).verdict) t.0 ∙ over_halts t.0 i t.1);
+          passes = λ b tree t. ap (λ v. verdict_of (proceed v plans)) b ∙ judged b tree t;
+          before = λ p. (proceed_passed before plans p).0;
+          trees = λ given p. trees p;
+          idle = λ k. ((λ p. (let b = past_before (IdleCut k) (inl refl) p in (b.0, idle_told b.0 k b.1))), λ t. ap (λ v. verdict_of (proceed v plans)) t.0 ∙ idle_halts t.0 k t.1);
+          shared = λ i. ((λ p. (let b = past_before (RackDemand i) (inr refl) p in (b.0, over_told b.0 i b.1))), λ t. ap (λ v. verdict_of (proceed v plans)) t.0 ∙ over_halts t.0 i t.1);
           unread = λ z h. same_answer choices s z h lengths widths kinds operands;
           other_plate = λ z h. same_job choices s z h;
           any = any_together J n plate;
           any_finer = any_finer J n plate;
           bounds = λ p. rack_holds J n plate (order_solid p);
           finer = λ p. rack_finer J n plate (order_solid p);
-          earned = λ p weight. (let t = trees p in let o = (parts (by_passed before plans p).0).1 in
-              let a = sum_le n (λ q. get_or (rack_by before plans).profits q 0) (λ q. profit J (t.0 q)) (λ q l. omega (arith, t.2 q l)) in
+          earned = λ given p weight. (let t = trees p in let o = (parts (proceed_value before plans p).0).1 in
+              let a = sum_le n (λ q. get_or given q 0) (λ q. profit J (t.0 q)) (λ q l. omega (arith, t.2 q l)) in
               let c = rack_holds J n plate (order_solid o) weight t.0 (λ q l. any_on (plated J (plate q)) (t.0 q) (t.1.on_plates q l)) t.1.shares in omega (arith, a, c));
         }
 
     -- an answer that equals the definition meets the whole contract
-    pub plates_met : {r : RackAnswer} → r ≡ rack_answer s choices lengths widths kinds operands → PlatesPromises s choices lengths widths kinds operands r
+    pub plates_met : {r : Answer (List ℕ)} → r ≡ rack_answer s choices lengths widths kinds operands → PlatesPromises s choices lengths widths kinds operands r
     plates_met e = record { answers = e; outcome = ap (λ a. rack_outcome a) e ∙ outcome_after before plans; checks = subst (RackChecks s choices lengths widths kinds operands) (sym e) checked }
 
     -- the rack is refused before any plan
-    pub plates_stopped : {v : Checked} {x : Refusal} → v ≡ before → v ≡ Refused x → rack_stopped v ≡ rack_answer s choices lengths widths kinds operands
-    plates_stopped e p = ap rack_stopped p ∙ sym (ap (λ v. rack_by v plans) (sym e ∙ p))
+    pub plates_stopped : {v : Checked} {x : Refusal} (r : Answer (List ℕ)) → v ≡ before → v ≡ Err x → IsErrAnd r (λ y. y ≡ x) → r ≡ rack_answer s choices lengths widths kinds operands
+    plates_stopped r e p h = handed r h ∙ sym (ap (λ v. proceed v plans) (sym e ∙ p))
 
     -- the plans of the job that was read decide
-    pub plates_walked : {v : Checked} {j : JobRecord} → v ≡ before → v ≡ Passed → j ≡ record_of s choices → plans_answer (job_of j) plate n kinds operands ≡ rack_answer s choices lengths widths kinds operands
-    plates_walked e p r = ap (λ (j : JobRecord). plans_answer (job_of j) plate n kinds operands) r ∙ sym (ap (λ v. rack_by v plans) (sym e ∙ p))
+    pub plates_walked : {v : Checked} {j : JobRecord} → v ≡ before → v ≡ passed → j ≡ record_of s choices → plans_answer (job_of j) plate n kinds operands ≡ rack_answer s choices lengths widths kinds operands
+    plates_walked e p r = ap (λ (j : JobRecord). plans_answer (job_of j) plate n kinds operands) r ∙ sym (ap (λ v. proceed v plans) (sym e ∙ p))

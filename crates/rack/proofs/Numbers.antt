@@ -1,20 +1,20 @@
 -- Which refusals are given: the checks before any plan's, the walk over a plan's nodes and 18 give neither 26 nor 29, and a tree's idle cuts
 -- nothing but 26.
-use Rattle.rack.proofs.Prelude.{◌≡◌, refl, sym, subst, Bool, true, false, List, [], ◌∷◌, ◌++◌, ℕ, zero, suc, ◌+◌, arith, Rect, Tree, waste, piece, cut, Piece, node_count, Job, Check, number_of, refuse_when, by_check, next, first_refusal, Refusal, Checked, Passed, Refused, Choices, each_kind, grain_checks, first_append, tree_checks, Report, TreeAnswer, node_of, node_checks, parts, report_after, tree_stopped, tree_walk, left_check, no_pass, order_checks, rack_checks}
+use Rattle.rack.proofs.Prelude.{◌≡◌, refl, sym, subst, Bool, true, false, List, [], ◌∷◌, ◌++◌, ℕ, zero, suc, ◌+◌, arith, Rect, Tree, waste, piece, cut, Piece, node_count, Job, Check, number_of, refuse_when, verdict_of, next, first_refusal, Refusal, Choices, each_kind, grain_checks, first_append, tree_checks, Report, TreeWalk, node_of, node_checks, parts, report_after, proceed, tree_walk, left_check, no_pass, order_checks, rack_checks, Ok, Err, passed, Checked, Answer}
 
 -- equal verdicts refuse the same
-pub same_refusal : {a b : Refusal} → Refused a ≡ Refused b → a ≡ b
+pub same_refusal : {a b : Refusal} → ◌≡◌ {A = Checked} (Err a) (Err b) → a ≡ b
 same_refusal e = cc
 
 -- a verdict whose refusal, if it has one, is such that P holds
 abbrev Gives : (Refusal → Type 0) → Checked → Type 0
-Gives P v = (x : Refusal) → v ≡ Refused x → P x
+Gives P v = (x : Refusal) → v ≡ Err x → P x
 
 module _ (P : Refusal → Type 0) where
-  given_passed : Gives P Passed
+  given_passed : Gives P passed
   given_passed x e = no_pass (sym e)
 
-  given_refused : (r : Refusal) → P r → Gives P (Refused r)
+  given_refused : (r : Refusal) → P r → Gives P (Err r)
   given_refused r n x e = subst P (same_refusal e) n
 
   given_when : (t : Bool) (r : Refusal) → P r → Gives P (refuse_when t r)
@@ -22,8 +22,8 @@ module _ (P : Refusal → Type 0) where
   given_when false r n = given_passed
 
   given_next : (a b : Checked) → Gives P a → Gives P b → Gives P (next a b)
-  given_next Passed b f g = g
-  given_next (Refused r) b f g = f
+  given_next (Ok _) b f g = g
+  given_next (Err r) b f g = f
 
   given_none : Gives P (first_refusal [])
   unfolding first_refusal
@@ -46,9 +46,9 @@ module _ (P : Refusal → Type 0) where
   given_one t r n = given_cons t r [] n given_none
 
   -- a check, and a walk that goes on where it passes
-  given_tree : (v : Checked) (a : TreeAnswer) → Gives P v → Gives P a.verdict → Gives P (by_check v a (λ x. tree_stopped (Refused x))).verdict
-  given_tree Passed a f g = g
-  given_tree (Refused r) a f g = f
+  given_tree : (v : Checked) (a : Answer TreeWalk) → Gives P v → Gives P (verdict_of a) → Gives P (verdict_of (proceed v a))
+  given_tree (Ok _) a f g = g
+  given_tree (Err r) a f g = f
 
 -- neither 26 nor 29
 abbrev pub Neither : Refusal → Type 0
@@ -82,7 +82,7 @@ pub left_gives : (n k : ℕ) → GivesNeither (first_refusal (left_check n k ∷
 left_gives n k = given_one Neither _ _ (λ e. omega arith, λ e. omega arith)
 
 -- the walk over one tree: 12 to 17 and 36
-pub walk_gives : (J : Job) (k : ℕ) (ns : List (ℕ × ℕ)) (rs : List Rect) (s : Report) → GivesNeither (tree_walk J k ns rs s).verdict
+pub walk_gives : (J : Job) (k : ℕ) (ns : List (ℕ × ℕ)) (rs : List Rect) (s : Report) → GivesNeither (verdict_of (tree_walk J k ns rs s))
 unfolding tree_walk
 walk_gives J k [] [] s = given_passed Neither
 walk_gives J k (n ∷ ns) [] s = given_passed Neither
@@ -94,7 +94,7 @@ walk_gives J k (n ∷ ns) (r ∷ rs) s = given_tree Neither (first_refusal (node
     (walk_gives J (k + 1) ns _ _)
 
 -- the idle cuts of a tree
-pub tree_gives : (t : Tree Piece) (k : ℕ) (x : Refusal) → first_refusal (tree_checks k t) ≡ Refused x → number_of x ≡ 26
+pub tree_gives : (t : Tree Piece) (k : ℕ) (x : Refusal) → first_refusal (tree_checks k t) ≡ Err x → number_of x ≡ 26
 unfolding tree_checks
 tree_gives waste k = given_one (λ x. number_of x ≡ 26) _ _ refl
 tree_gives (piece p) k = given_one (λ x. number_of x ≡ 26) _ _ refl

@@ -1,6 +1,7 @@
--- What writing profits changes, the profit of each plate written and nothing else; and that the checker's answer for the sides of a rack and
--- the records that `settle` leaves keep all that is promised.
-use Rattle.rack.proofs.Prelude.{◌≡◌, refl, sym, ◌∙◌, ap, subst, List, [], ℕ, zero, suc, ◌≤◌, ◌<◌, ℕ_discrete, arith, length, get_or, set, length-set, length-map, get_or-set_same, get_or-set_other, by_check, outcome_by, Checked, Passed, Refused, Choices, block_job, Plate, RackAnswer, plate_at, RackOf, RackChecks, blank, with_profit, paid, paid_count, lengths_of, widths_of, records_answer, rack_after, RackPromises}
+-- What writing profits changes, the profit of each plate written and nothing else; and that a refusal, which changes no record, and a pass keep
+-- all that is promised.
+use Rattle.rack.proofs.Prelude.{◌≡◌, refl, sym, ◌∙◌, ap, subst, Bool, true, false, ◌||◌, not, or-true, List, [], ℕ, zero, suc, ◌≤◌, ◌<◌, ℕ_discrete, arith, ltb, eqb, length, get_or, set, length-set, length-map, get_or-set_same, get_or-set_other, refuse_when, verdict_of, outcome_by, Refusal, RackSize, Choices, block_job, Plate, proceed, no_pass, plate_at, rack_size_check, rack_checks, plans_answer, check_stops, RackOf, RackChecks, blank, with_profit, paid, lengths_of, widths_of, records_answer, settled, RackPromises, IsErrAnd, handed, Ok, Err, passed, Checked, Answer}
+use Rattle.rack.proofs.Own.{same_value}
 use Rattle.rack.proofs.Calls.{plates_met}
 
 module _ (rack : List Plate) (profits : List ℕ) where
@@ -35,39 +36,59 @@ module _ (rack : List Plate) (profits : List ℕ) where
       go (yes e) ih = rw e (get_or-set_same (paid rack profits n) n (with_profit (get_or (paid rack profits n) n blank) (get_or profits n 0)) blank (omega (arith, paid_length n)) ∙ ap (λ p. with_profit p (get_or profits n 0)) (paid_past n n (omega arith)))
       go (no e) ih = get_or-set_other (paid rack profits n) n i (with_profit (get_or (paid rack profits n) n blank) (get_or profits n 0)) blank e ∙ ih (omega arith)
 
--- no more profits are written than there are plates
-pub paid_few : (v : Checked) (n : ℕ) → paid_count v n ≤ n
-paid_few Passed n = omega arith
-paid_few (Refused x) n = omega arith
-
--- the records after a verdict, by the number of profits written
-after_count : (rack : List Plate) (profits : List ℕ) (v : Checked) → paid rack profits (paid_count v (length rack)) ≡ by_check v (paid rack profits (length rack)) (λ x. rack)
-after_count rack profits Passed = refl
-after_count rack profits (Refused x) = paid_none rack profits
+-- the last of three tests
+last_true : (a b : Bool) {c : Bool} → c ≡ true → (a || (b || c)) ≡ true
+last_true a b e = ap (λ t. a || (b || t)) e ∙ ap (λ t. a || t) (or-true b) ∙ or-true a
 
 module _ (s : List ℕ) (choices : Choices) (rack : List Plate) (kinds operands : List ℕ) where
-  abbrev answer : RackAnswer
+  abbrev answer : Answer (List ℕ)
   answer = records_answer s choices rack kinds operands
 
   abbrev checks : RackChecks s choices (lengths_of rack) (widths_of rack) kinds operands answer
   checks = (plates_met s choices (lengths_of rack) (widths_of rack) kinds operands refl).checks
 
-  -- the checker's answer and what `settle` leaves
-  pub rack_met : {r : RackAnswer} {after : List Plate} → r ≡ answer → after ≡ paid rack r.profits (paid_count r.verdict (length rack)) → RackPromises s choices rack after kinds operands r.verdict
-  rack_met {r} {after} e m =
-      let v : r.verdict ≡ answer.verdict = ap (λ a. a.verdict) e in
-      let memory : after ≡ rack_after s choices rack kinds operands = m ∙ ap (λ (a : RackAnswer). paid rack a.profits (paid_count a.verdict (length rack))) e ∙ after_count rack answer.profits answer.verdict in
-      let passed : r.verdict ≡ Passed → after ≡ paid rack answer.profits (length rack) = λ p. memory ∙ ap (λ v. by_check v (paid rack answer.profits (length rack)) (λ x. rack)) (sym v ∙ p) in
-      let at : r.verdict ≡ Passed → (q : ℕ) → q < length rack → get_or after q blank ≡ with_profit (get_or rack q blank) (get_or answer.profits q 0) = λ p q l. ap (λ l. get_or l q blank) (passed p) ∙ paid_at rack answer.profits (length rack) q l (omega arith) in
-      let n : length (lengths_of rack) ≡ length rack = length-map rack (λ q. q.length) in
+  -- a refused rack
+  pub rack_refused : {x : Refusal} (v : Checked) → answer ≡ Err x → IsErrAnd v (λ y. y ≡ x) → RackPromises s choices rack rack kinds operands v
+  rack_refused {x} v e h =
+      let w : v ≡ verdict_of answer = handed v h ∙ sym (ap verdict_of e) in
       record {
-        answers = v;
-        outcome = ap (λ v. outcome_by v []) v;
-        memory = memory;
-        unchanged = λ x p. memory ∙ ap (λ v. by_check v (paid rack answer.profits (length rack)) (λ x. rack)) (sym v ∙ p);
-        size = ap length m ∙ paid_length rack r.profits (paid_count r.verdict (length rack));
-        written = at;
-        trees = λ p. (let t = checks.trees (sym v ∙ p) in
-            (t.0, subst (λ m. RackOf (block_job s choices) m (plate_at (lengths_of rack) (widths_of rack)) t.0 kinds operands) n t.1, λ q l. ap (λ (z : Plate). z.profit) (at p q l) ∙ t.2 q (omega (arith, n, l))));
+        answers = w;
+        outcome = ap (λ v. outcome_by v []) w;
+        memory = sym (ap (settled rack) e);
+        unchanged = λ y p. refl;
+        size = refl;
+        written = λ profits p. no_pass (ap verdict_of (sym e ∙ p));
+        trees = λ p. no_pass (sym (handed v h) ∙ p);
         checks = checks;
       }
+
+  -- a rack that passes, whose profits are written
+  pub rack_met : {profits : List ℕ} {after : List Plate} → answer ≡ Ok profits → after ≡ paid rack profits (length rack) → RackPromises s choices rack after kinds operands passed
+  rack_met {profits} {after} e m =
+      let w : passed ≡ verdict_of answer = sym (ap verdict_of e) in
+      let at : (q : ℕ) → q < length rack → get_or after q blank ≡ with_profit (get_or rack q blank) (get_or profits q 0) = λ q l. ap (λ l. get_or l q blank) m ∙ paid_at rack profits (length rack) q l (omega arith) in
+      let n : length (lengths_of rack) ≡ length rack = length-map rack (λ q. q.length) in
+      record {
+        answers = w;
+        outcome = ap (λ v. outcome_by v []) w;
+        memory = m ∙ sym (ap (settled rack) e);
+        unchanged = λ x p. no_pass (sym p);
+        size = ap length m ∙ paid_length rack profits (length rack);
+        written = λ given p. (let same : profits ≡ given = same_value (sym e ∙ p) in subst (λ ns. (q : ℕ) → q < length rack → get_or after q blank ≡ with_profit (get_or rack q blank) (get_or ns q 0)) same at);
+        trees = λ p. (let t = checks.trees profits e in
+            (t.0, subst (λ m. RackOf (block_job s choices) m (plate_at (lengths_of rack) (widths_of rack)) t.0 kinds operands) n t.1, λ q l. ap (λ (z : Plate). z.profit) (at q l) ∙ t.2 q (omega (arith, n, l))));
+        checks = checks;
+      }
+
+-- a rack of more than 16 plates is refused by 28
+pub many_refused : (s : List ℕ) (choices : Choices) (rack : List Plate) (kinds operands : List ℕ) {v : Checked} {x : Refusal} → v ≡ refuse_when (ltb 16 (length rack)) RackSize → v ≡ Err x → records_answer s choices rack kinds operands ≡ Err x
+unfolding rack_checks
+many_refused s choices rack kinds operands {v} {x} e p = go (ltb 16 (length rack)) refl (sym e ∙ p)
+  where
+    go : (b : Bool) → ltb 16 (length rack) ≡ b → refuse_when b RackSize ≡ Err x → records_answer s choices rack kinds operands ≡ Err x
+    go true f q =
+        let b : ltb 16 (length (lengths_of rack)) ≡ true = ap (ltb 16) (length-map rack (λ p. p.length)) ∙ f in
+        let c : (rack_size_check (lengths_of rack) (widths_of rack)).0 ≡ true = last_true (not (eqb (length (lengths_of rack)) (length (widths_of rack)))) (ltb (length (lengths_of rack)) 1) b in
+        ap (λ v. proceed v (plans_answer (block_job s choices) (plate_at (lengths_of rack) (widths_of rack)) (length (lengths_of rack)) kinds operands))
+        (sym (check_stops (rack_size_check (lengths_of rack) (widths_of rack)).0 RackSize _ (sym (ap (λ t. refuse_when t RackSize) c)) refl) ∙ q)
+    go false f q = no_pass (sym q)

@@ -1,6 +1,6 @@
 -- The plans of a rack are refused with 26 or 29 exactly where trees, one a plate and the first of them passing, have the idle cut or pass the
 -- demand: from the verdict to the trees and the other way.
-use Rattle.rack.proofs.Prelude.{◌≡◌, ◌∙◌, refl, sym, ap, subst, ◌⊎◌, inl, inr, ⊎_elim, List, [], ◌∷◌, ◌++◌, append_assoc, ℕ, zero, suc, ◌+◌, ◌≤◌, ◌<◌, dec_le, arith, length, drop, get_or, set, take-append-drop, drop-drop, drop-append_seam, lt-ltb, sum, Rect, Tree, IdleFree, Piece, node_count, Job, OnPlate, copies_of, KeepsDemands, Check, number_of, by_check, next, first_refusal, Refusal, RackDemand, Checked, Passed, Refused, each_kind, first_append, entries_in, tree_checks, passed_free, free_passed, TreeAnswer, nodes_in, empty_report, left_check, tree_passed, tree_stopped, tree_report, written, count_written, no_pass, tree_drawn, RackAnswer, plated, chained, walked_at, own_answer, total_check, total_checks, with_own, rack_passed, rack_by, rack_walk, sum_first}
+use Rattle.rack.proofs.Prelude.{◌≡◌, ◌∙◌, refl, sym, ap, subst, ◌⊎◌, inl, inr, ⊎_elim, List, [], ◌∷◌, ◌++◌, append_assoc, ℕ, zero, suc, ◌+◌, ◌≤◌, ◌<◌, dec_le, arith, length, drop, get_or, set, take-append-drop, drop-drop, drop-append_seam, lt-ltb, sum, Rect, Tree, IdleFree, Piece, node_count, Job, OnPlate, copies_of, KeepsDemands, Check, number_of, next, first_refusal, Refusal, RackDemand, each_kind, first_append, entries_in, tree_checks, passed_free, free_passed, TreeWalk, nodes_in, empty_report, left_check, tree_report, written, count_written, no_pass, tree_drawn, plated, chained, walked_at, own_answer, total_check, total_checks, with_own, and_then, proceed, verdict_of, rack_walk, sum_first, Ok, Err, passed, Checked, Answer}
 use Rattle.rack.proofs.Totals.{with_own_length, with_own_in, totals_within}
 use Rattle.rack.proofs.Own.{own_stops}
 use Rattle.rack.proofs.Numbers.{Neither, same_refusal, left_gives, walk_gives}
@@ -11,13 +11,13 @@ abbrev pub Either : Refusal → Type 0
 Either x = (number_of x ≡ 26) ⊎ (number_of x ≡ 29)
 
 -- the verdict of a check, and else of what follows it
-pub by_refused : (v : Checked) (a : RackAnswer) {x : Refusal} → (rack_by v a).verdict ≡ Refused x → (v ≡ Refused x) ⊎ ((v ≡ Passed) × (a.verdict ≡ Refused x))
-by_refused Passed a p = inr (refl, p)
-by_refused (Refused r) a p = inl p
+pub by_refused : (v : Checked) (a : Answer (List ℕ)) {x : Refusal} → verdict_of (proceed v a) ≡ Err x → (v ≡ Err x) ⊎ ((v ≡ passed) × (verdict_of a ≡ Err x))
+by_refused (Ok _) a p = inr (refl, p)
+by_refused (Err r) a p = inl p
 
 -- 29 passes, or some kind's total passes its demand
-decide : (demand : ℕ → ℕ) (p : ℕ) (totals own : List ℕ) (i n : ℕ) → (first_refusal (each_kind (total_check demand p totals own) i n) ≡ Passed)
-    ⊎ ((j : ℕ) × (j < i + n) × (demand j < get_or totals j 0 + get_or own j 0) × (first_refusal (each_kind (total_check demand p totals own) i n) ≡ Refused (RackDemand p)))
+decide : (demand : ℕ → ℕ) (p : ℕ) (totals own : List ℕ) (i n : ℕ) → (first_refusal (each_kind (total_check demand p totals own) i n) ≡ passed)
+    ⊎ ((j : ℕ) × (j < i + n) × (demand j < get_or totals j 0 + get_or own j 0) × (first_refusal (each_kind (total_check demand p totals own) i n) ≡ Err (RackDemand p)))
 unfolding each_kind first_refusal
 decide demand p totals own i zero = inl refl
 decide demand p totals own i (suc n) = go (dec_le (get_or totals i 0 + get_or own i 0) (demand i)) (decide demand p totals own (suc i) n)
@@ -26,8 +26,8 @@ decide demand p totals own i (suc n) = go (dec_le (get_or totals i 0 + get_or ow
     f = total_check demand p totals own
 
     go : Dec (get_or totals i 0 + get_or own i 0 ≤ demand i)
-        → (first_refusal (each_kind f (suc i) n) ≡ Passed) ⊎ ((j : ℕ) × (j < suc i + n) × (demand j < get_or totals j 0 + get_or own j 0) × (first_refusal (each_kind f (suc i) n) ≡ Refused (RackDemand p)))
-        → (first_refusal (f i ++ each_kind f (suc i) n) ≡ Passed) ⊎ ((j : ℕ) × (j < i + suc n) × (demand j < get_or totals j 0 + get_or own j 0) × (first_refusal (f i ++ each_kind f (suc i) n) ≡ Refused (RackDemand p)))
+        → (first_refusal (each_kind f (suc i) n) ≡ passed) ⊎ ((j : ℕ) × (j < suc i + n) × (demand j < get_or totals j 0 + get_or own j 0) × (first_refusal (each_kind f (suc i) n) ≡ Err (RackDemand p)))
+        → (first_refusal (f i ++ each_kind f (suc i) n) ≡ passed) ⊎ ((j : ℕ) × (j < i + suc n) × (demand j < get_or totals j 0 + get_or own j 0) × (first_refusal (f i ++ each_kind f (suc i) n) ≡ Err (RackDemand p)))
     go (no h) r = inr (i, omega arith, omega (arith, h), simp (lt-ltb (demand i) (get_or totals i 0 + get_or own i 0) (omega (arith, h))))
     go (yes h) (inl e) = inl (first_append (f i) (each_kind f (suc i) n) ∙ ap (λ v. next v (first_refusal (each_kind f (suc i) n))) (within (demand i) (get_or totals i 0 + get_or own i 0) p h) ∙ e)
     go (yes h) (inr u) = inr (u.0, omega (arith, u.1), u.2, first_append (f i) (each_kind f (suc i) n) ∙ ap (λ v. next v (first_refusal (each_kind f (suc i) n))) (within (demand i) (get_or totals i 0 + get_or own i 0) p h) ∙ u.3)
@@ -36,14 +36,20 @@ module _ (J : Job) (few : J.count ≤ 64) (plate : ℕ → Rect) (kinds operands
   abbrev nodes_of : List (ℕ × ℕ)
   nodes_of = nodes_in kinds operands
 
+  -- the rest of m + 1 plans from plate i on, by what 29 says of the first
+  abbrev rest_of : ℕ → ℕ → List ℕ → List ℕ → Checked → TreeWalk → Answer (List ℕ)
+  rest_of i m totals profits v t = proceed v (rack_walk J plate kinds operands (i + 1) m t.past (with_own totals t.report.copies J.count) (set profits i t.report.profit))
+
   -- the verdict of m + 1 plans from plate i on, by what the first answers
-  abbrev after : ℕ → ℕ → List ℕ → List ℕ → TreeAnswer → Checked
-  after i m totals profits a = (rack_by (next a.verdict (first_refusal (total_checks J i totals a.report.copies)))
-      (rack_walk J plate kinds operands (i + 1) m a.past (with_own totals a.report.copies J.count) (set profits i a.report.profit))).verdict
+  abbrev after : ℕ → ℕ → List ℕ → List ℕ → Answer TreeWalk → Checked
+  after i m totals profits a = verdict_of (and_then a (λ t. rest_of i m totals profits (first_refusal (total_checks J i totals t.report.copies)) t))
 
   -- what a tree's own checks answer, by 26
-  abbrev by_idle : ℕ → ℕ → Tree Piece → Checked → TreeAnswer
-  by_idle i k t v = by_check v (tree_passed (k + node_count t) (tree_report (plated J (plate i)) t)) (λ r. tree_stopped (Refused r))
+  abbrev walk_of : ℕ → ℕ → Tree Piece → TreeWalk
+  walk_of i k t = record { report = tree_report (plated J (plate i)) t; past = k + node_count t }
+
+  abbrev by_idle : ℕ → ℕ → Tree Piece → Checked → Answer TreeWalk
+  by_idle i k t v = proceed v (Ok (walk_of i k t))
 
   -- the totals with a tree's copies
   abbrev totals_after : ℕ → List ℕ → Tree Piece → List ℕ
@@ -60,18 +66,18 @@ module _ (J : Job) (few : J.count ≤ 64) (plate : ℕ → Rect) (kinds operands
     abbrev total : Checked
     total = first_refusal (total_checks J i totals (tree_report (plated J (plate i)) t).copies)
 
-    decided : ((total ≡ Passed) × ((j : ℕ) → j < J.count → get_or totals j 0 + copies_of j t ≤ J.demand j))
-        ⊎ ((j : ℕ) × (j < J.count) × (J.demand j < get_or totals j 0 + copies_of j t) × (total ≡ Refused (RackDemand i)))
+    decided : ((total ≡ passed) × ((j : ℕ) → j < J.count → get_or totals j 0 + copies_of j t ≤ J.demand j))
+        ⊎ ((j : ℕ) × (j < J.count) × (J.demand j < get_or totals j 0 + copies_of j t) × (total ≡ Err (RackDemand i)))
     decided = go (decide J.demand i totals (tree_report (plated J (plate i)) t).copies 0 J.count)
       where
-        go : (total ≡ Passed) ⊎ ((j : ℕ) × (j < 0 + J.count) × (J.demand j < get_or totals j 0 + get_or (tree_report (plated J (plate i)) t).copies j 0) × (total ≡ Refused (RackDemand i)))
-            → ((total ≡ Passed) × ((j : ℕ) → j < J.count → get_or totals j 0 + copies_of j t ≤ J.demand j)) ⊎ ((j : ℕ) × (j < J.count) × (J.demand j < get_or totals j 0 + copies_of j t) × (total ≡ Refused (RackDemand i)))
+        go : (total ≡ passed) ⊎ ((j : ℕ) × (j < 0 + J.count) × (J.demand j < get_or totals j 0 + get_or (tree_report (plated J (plate i)) t).copies j 0) × (total ≡ Err (RackDemand i)))
+            → ((total ≡ passed) × ((j : ℕ) → j < J.count → get_or totals j 0 + copies_of j t ≤ J.demand j)) ⊎ ((j : ℕ) × (j < J.count) × (J.demand j < get_or totals j 0 + copies_of j t) × (total ≡ Err (RackDemand i)))
         go (inl e) = inl (e, λ j l. (let w = totals_within J.count J.demand i totals (tree_report (plated J (plate i)) t).copies e j l in omega (arith, w, own j l)))
         go (inr u) = let l : u.0 < J.count = omega (arith, u.1) in inr (u.0, l, omega (arith, u.2, own u.0 l), u.3)
 
   -- what is met at a tree after some that pass: its first idle cut, or none and a total that passes its demand
   abbrev pub Met : ℕ → ℕ → List ℕ → (ℕ → Tree Piece) → ℕ → Refusal → Type 0
-  Met i k totals tree at x = (first_refusal (tree_checks (k + sum at (λ d. node_count (tree d))) (tree at)) ≡ Refused x)
+  Met i k totals tree at x = (first_refusal (tree_checks (k + sum at (λ d. node_count (tree d))) (tree at)) ≡ Err x)
       ⊎ (IdleFree (tree at) × (x ≡ RackDemand (i + at)) × ((j : ℕ) × (j < J.count) × (J.demand j < get_or totals j 0 + sum (suc at) (λ d. copies_of j (tree d)))))
 
   -- m plans from plate i and node k on, after the totals of the plates before, that are refused with x at a tree
@@ -95,14 +101,14 @@ module _ (J : Job) (few : J.count ≤ 64) (plate : ℕ → Rect) (kinds operands
     pub nodes : drop k nodes_of ≡ written tree ++ drop (k + node_count tree) nodes_of
 
   -- a plan's walk is refused with neither 26 nor 29, or reads a tree
-  walked : (i k : ℕ) → ((y : Refusal) × ((own_answer (plated J (plate i)) kinds operands k).verdict ≡ Refused y) × Neither y) ⊎ At i k
-  walked i k = go (walked_at K kinds operands k).verdict refl
+  walked : (i k : ℕ) → ((y : Refusal) × (own_answer (plated J (plate i)) kinds operands k ≡ Err y) × Neither y) ⊎ At i k
+  walked i k = go (walked_at K kinds operands k) refl
     where
       K : Job
       K = plated J (plate i)
 
-      go : (v : Checked) → (walked_at K kinds operands k).verdict ≡ v → ((y : Refusal) × ((own_answer K kinds operands k).verdict ≡ Refused y) × Neither y) ⊎ At i k
-      go Passed e =
+      go : (a : Answer TreeWalk) → walked_at K kinds operands k ≡ a → ((y : Refusal) × (own_answer K kinds operands k ≡ Err y) × Neither y) ⊎ At i k
+      go (Ok w) e =
           let t = tree_drawn K few k (drop k nodes_of) e in
           inr (record {
             tree = t.tree;
@@ -110,7 +116,7 @@ module _ (J : Job) (few : J.count ≤ 64) (plate : ℕ → Rect) (kinds operands
             keeps = t.keeps;
             nodes = sym (take-append-drop (node_count t.tree) (drop k nodes_of)) ∙ (ap (λ l. l ++ drop (node_count t.tree) (drop k nodes_of)) t.nodes ∙ ap (λ l. written t.tree ++ l) (drop-drop (node_count t.tree) k nodes_of));
           })
-      go (Refused y) e = inl (y, sym (ap (λ (a : TreeAnswer). a.verdict) (own_stops K kinds operands k refl e)) ∙ e, walk_gives K k (drop k nodes_of) (K.plate ∷ []) empty_report y e)
+      go (Err y) e = inl (y, own_stops K kinds operands k refl e, walk_gives K k (drop k nodes_of) (K.plate ∷ []) empty_report y (ap verdict_of e))
 
   -- the first tree is the one
   here : (i m k : ℕ) (totals : List ℕ) (x : Refusal) (t : At i k) → ((j : ℕ) → j < J.count → get_or totals j 0 ≤ J.demand j) → Met i k totals (λ d. t.tree) 0 x → Stopped i (suc m) k totals x
@@ -158,8 +164,8 @@ module _ (J : Job) (few : J.count ≤ 64) (plate : ℕ → Rect) (kinds operands
 
   -- from the verdict to the trees: one plan, and the rest by what is known of fewer
   one : (m i k : ℕ) (totals profits : List ℕ) (x : Refusal) → length totals ≡ 64 → ((j : ℕ) → j < J.count → get_or totals j 0 ≤ J.demand j) → Either x
-      → after i m totals profits (own_answer (plated J (plate i)) kinds operands k) ≡ Refused x
-      → ((k' : ℕ) (totals' profits' : List ℕ) → length totals' ≡ 64 → ((j : ℕ) → j < J.count → get_or totals' j 0 ≤ J.demand j) → (rack_walk J plate kinds operands (i + 1) m k' totals' profits').verdict ≡ Refused x → Stopped (i + 1) m k' totals' x)
+      → after i m totals profits (own_answer (plated J (plate i)) kinds operands k) ≡ Err x
+      → ((k' : ℕ) (totals' profits' : List ℕ) → length totals' ≡ 64 → ((j : ℕ) → j < J.count → get_or totals' j 0 ≤ J.demand j) → verdict_of (rack_walk J plate kinds operands (i + 1) m k' totals' profits') ≡ Err x → Stopped (i + 1) m k' totals' x)
       → Stopped i (suc m) k totals x
   unfolding sum
   one m i k totals profits x tl low kind p rest = first (walked i k)
@@ -167,48 +173,47 @@ module _ (J : Job) (few : J.count ≤ 64) (plate : ℕ → Rect) (kinds operands
       K : Job
       K = plated J (plate i)
 
-      first : ((y : Refusal) × ((own_answer K kinds operands k).verdict ≡ Refused y) × Neither y) ⊎ At i k → Stopped i (suc m) k totals x
+      first : ((y : Refusal) × (own_answer K kinds operands k ≡ Err y) × Neither y) ⊎ At i k → Stopped i (suc m) k totals x
       first (inl u) =
-          let a = own_answer K kinds operands k in
-          let e : Refused u.0 ≡ Refused x = sym (ap (λ v. (rack_by (next v (first_refusal (total_checks J i totals a.report.copies))) (rack_walk J plate kinds operands (i + 1) m a.past (with_own totals a.report.copies J.count) (set profits i a.report.profit))).verdict) u.1) ∙ p in
+          let e : Err u.0 ≡ Err x = sym (ap (after i m totals profits) u.1) ∙ p in
           let n : Neither x = subst Neither (same_refusal e) u.2 in
           absurd (⊎_elim n.0 n.1 kind)
       first (inr t) = idle (first_refusal (tree_checks k t.tree)) refl
         where
-          told : after i m totals profits (by_idle i k t.tree (first_refusal (tree_checks k t.tree))) ≡ Refused x
+          told : after i m totals profits (by_idle i k t.tree (first_refusal (tree_checks k t.tree))) ≡ Err x
           told = sym (ap (after i m totals profits) (own_tree J few plate kinds operands same K few t.tree k (drop (k + node_count t.tree) nodes_of) t.on t.keeps t.nodes)) ∙ p
 
           idle : (v : Checked) → first_refusal (tree_checks k t.tree) ≡ v → Stopped i (suc m) k totals x
-          idle (Refused y) e =
+          idle (Err y) e =
               let z : k + 0 ≡ k = omega arith in
               here i m k totals x t low (inl (ap (λ n. first_refusal (tree_checks n t.tree)) z ∙ (e ∙ (sym (ap (λ v. after i m totals profits (by_idle i k t.tree v)) e) ∙ told))))
-          idle Passed e = by_total (decided i totals t.tree)
+          idle (Ok _) e = by_total (decided i totals t.tree)
             where
-              passes : (rack_by (total i totals t.tree) (rack_walk J plate kinds operands (i + 1) m (k + node_count t.tree) (totals_after i totals t.tree) (set profits i (tree_report K t.tree).profit))).verdict ≡ Refused x
+              passes : verdict_of (rest_of i m totals profits (total i totals t.tree) (walk_of i k t.tree)) ≡ Err x
               passes = sym (ap (λ v. after i m totals profits (by_idle i k t.tree v)) e) ∙ told
 
-              by_total : ((total i totals t.tree ≡ Passed) × ((j : ℕ) → j < J.count → get_or totals j 0 + copies_of j t.tree ≤ J.demand j))
-                  ⊎ ((j : ℕ) × (j < J.count) × (J.demand j < get_or totals j 0 + copies_of j t.tree) × (total i totals t.tree ≡ Refused (RackDemand i)))
+              by_total : ((total i totals t.tree ≡ passed) × ((j : ℕ) → j < J.count → get_or totals j 0 + copies_of j t.tree ≤ J.demand j))
+                  ⊎ ((j : ℕ) × (j < J.count) × (J.demand j < get_or totals j 0 + copies_of j t.tree) × (total i totals t.tree ≡ Err (RackDemand i)))
                   → Stopped i (suc m) k totals x
               by_total (inl u) = there i m k totals x tl t (passed_free t.tree k e)
                   (rest (k + node_count t.tree) (totals_after i totals t.tree) (set profits i (tree_report K t.tree).profit) (with_own_length totals (tree_report K t.tree).copies J.count ∙ tl)
                   (λ j l. omega (arith, sums i totals t.tree tl j l, u.1 j l))
-                  (sym (ap (λ v. (rack_by v (rack_walk J plate kinds operands (i + 1) m (k + node_count t.tree) (totals_after i totals t.tree) (set profits i (tree_report K t.tree).profit))).verdict) u.0) ∙ passes))
+                  (sym (ap (λ v. verdict_of (rest_of i m totals profits v (walk_of i k t.tree))) u.0) ∙ passes))
               by_total (inr u) =
-                  let y : Refused (RackDemand i) ≡ Refused x = sym (ap (λ v. (rack_by v (rack_walk J plate kinds operands (i + 1) m (k + node_count t.tree) (totals_after i totals t.tree) (set profits i (tree_report K t.tree).profit))).verdict) u.3) ∙ passes in
+                  let y : Err (RackDemand i) ≡ Err x = sym (ap (λ v. verdict_of (rest_of i m totals profits v (walk_of i k t.tree))) u.3) ∙ passes in
                   let z : i ≡ i + 0 = omega arith in
                   here i m k totals x t low (inr (passed_free t.tree k e, sym (same_refusal y) ∙ ap RackDemand z, (u.0, u.1, omega (arith, u.2))))
 
   pub stopped : (m i k : ℕ) (totals profits : List ℕ) (x : Refusal) → length totals ≡ 64 → ((j : ℕ) → j < J.count → get_or totals j 0 ≤ J.demand j) → Either x
-      → (rack_walk J plate kinds operands i m k totals profits).verdict ≡ Refused x → Stopped i m k totals x
+      → verdict_of (rack_walk J plate kinds operands i m k totals profits) ≡ Err x → Stopped i m k totals x
   unfolding rack_walk
-  stopped zero i k totals profits x tl low kind p = ⊎_elim (λ e. (let n = left_gives (length kinds) k x e in absurd (⊎_elim n.0 n.1 kind))) (λ e. no_pass (sym e.1)) (by_refused (first_refusal (left_check (length kinds) k ∷ [])) (rack_passed profits) p)
+  stopped zero i k totals profits x tl low kind p = ⊎_elim (λ e. (let n = left_gives (length kinds) k x e in absurd (⊎_elim n.0 n.1 kind))) (λ e. no_pass (sym e.1)) (by_refused (first_refusal (left_check (length kinds) k ∷ [])) (Ok profits) p)
   stopped (suc m) i k totals profits x tl low kind p = one m i k totals profits x tl low kind p (λ k' totals' profits' tl' low' q. stopped m (i + 1) k' totals' profits' x tl' low' kind q)
 
   -- and the other way
   pub stops : (at m i k : ℕ) (totals profits : List ℕ) (tree : ℕ → Tree Piece) (more : List (ℕ × ℕ)) (x : Refusal) → at < m → length totals ≡ 64 → ((d : ℕ) → d < suc at → OnPlate (plated J (plate (i + d))) (tree d)) → ((d : ℕ) → d < suc at → KeepsDemands J (tree d))
       → ((d : ℕ) → d < at → IdleFree (tree d)) → ((j : ℕ) → j < J.count → get_or totals j 0 + sum at (λ d. copies_of j (tree d)) ≤ J.demand j) → drop k nodes_of ≡ chained (suc at) (λ d. written (tree d)) ++ more
-      → Met i k totals tree at x → (rack_walk J plate kinds operands i m k totals profits).verdict ≡ Refused x
+      → Met i k totals tree at x → verdict_of (rack_walk J plate kinds operands i m k totals profits) ≡ Err x
   unfolding rack_walk sum chained
   stops at zero i k totals profits tree more x h tl on keeps free shares nodes met = absurd (omega arith)
   stops zero (suc m) i k totals profits tree more x h tl on keeps free shares nodes met =
@@ -219,7 +224,7 @@ module _ (J : Job) (few : J.count ≤ 64) (plate : ℕ → Rect) (kinds operands
       (λ e. (let y : k ≡ k + 0 = omega arith in ap (λ v. after i m totals profits (by_idle i k t v)) (ap (λ n. first_refusal (tree_checks n t)) y ∙ e)))
       (λ e. ap (λ v. after i m totals profits (by_idle i k t v)) (free_passed t k e.0) ∙ ⊎_elim
       (λ u. (let l = u.1 e.2.0 e.2.1 in absurd (omega (arith, l, e.2.2))))
-      (λ u. ap (λ v. (rack_by v (rack_walk J plate kinds operands (i + 1) m (k + node_count t) (totals_after i totals t) (set profits i (tree_report (plated J (plate i)) t).profit))).verdict) u.3 ∙ ap Refused (ap RackDemand (sym z) ∙ sym e.1))
+      (λ u. ap (λ v. verdict_of (rest_of i m totals profits v (walk_of i k t))) u.3 ∙ ap Err (ap RackDemand (sym z) ∙ sym e.1))
       (decided i totals t)) met
   stops (suc at) (suc m) i k totals profits tree more x h tl on keeps free shares nodes met =
       let t = tree 0 in
@@ -236,5 +241,5 @@ module _ (J : Job) (few : J.count ≤ 64) (plate : ℕ → Rect) (kinds operands
       (⊎_elim (λ e. inl (ap (λ n. first_refusal (tree_checks n (tree (suc at)))) (sym start) ∙ e))
       (λ e. inr (e.0, e.1 ∙ ap RackDemand plates, (e.2.0, e.2.1, (let f = sum_first (suc at) (λ d. copies_of e.2.0 (tree d)) in omega (arith, f, e.2.2, sums i totals t tl e.2.0 e.2.1))))) met) in
       told ∙ ap (λ v. after i m totals profits (by_idle i k t v)) (free_passed t k (free 0 (omega arith)))
-      ∙ ⊎_elim (λ u. ap (λ v. (rack_by v (rack_walk J plate kinds operands (i + 1) m (k + node_count t) (totals_after i totals t) (set profits i (tree_report (plated J (plate i)) t).profit))).verdict) u.0 ∙ rest)
+      ∙ ⊎_elim (λ u. ap (λ v. verdict_of (rest_of i m totals profits v (walk_of i k t))) u.0 ∙ rest)
       (λ u. (let f = sum_first at (λ d. copies_of u.0 (tree d)) in let s = shares u.0 u.1 in absurd (omega (arith, f, s, u.2)))) (decided i totals t)

@@ -1,5 +1,5 @@
 -- The totals of the kinds over the rack, with a plan's own copies added kind after kind.
-use Rattle.rack.proofs.Prelude.{◌≡◌, ◌∙◌, refl, sym, ap, Bool, List, ℕ, zero, suc, ◌+◌, ◌≤◌, ◌<◌, ℕ_discrete, add-one, arith, ltb, length, get_or, set, length-set, get_or-set_same, get_or-set_other, ltb-false, Check, refuse_when, first_refusal, RackDemand, Passed, Refused, each_kind, Decides, begins, passes, stops, ends, check_last, cons_passed, each_passed, no_pass, total_check, with_own, TotalsAfter}
+use Rattle.rack.proofs.Prelude.{◌≡◌, ◌∙◌, refl, sym, ap, List, ℕ, zero, suc, ◌+◌, ◌≤◌, ◌<◌, ℕ_discrete, add-one, arith, ltb, length, get_or, set, length-set, get_or-set_same, get_or-set_other, ltb-false, Check, refuse_when, first_refusal, RackDemand, each_kind, Decides, begins, passes, stops, ends, check_last, cons_passed, each_passed, no_pass, total_check, with_own, TotalsAfter, Refusal, IsErrAnd, handed, Checked, Err, passed}
 
 module _ (totals own : List ℕ) where
   pub with_own_length : (n : ℕ) → length (with_own totals own n) ≡ length totals
@@ -42,25 +42,25 @@ module _ (count : ℕ) (demands : List ℕ) (plate : ℕ) (totals own : List ℕ
     here : get_or now j 0 ≡ get_or totals j 0
     here = ap (λ l. get_or l j 0) g.added ∙ with_own_past totals own j j (omega arith)
 
-    decided : {b : Bool} → b ≡ ltb (get_or demands j 0) (get_or now j 0 + get_or own j 0) → refuse_when b (RackDemand plate) ≡ first_refusal (f j)
-    decided e = check_last _ _ (ap (λ b. refuse_when b (RackDemand plate)) (e ∙ ap (λ t. ltb (get_or demands j 0) (t + get_or own j 0)) here))
+    decided : {v : Checked} → v ≡ refuse_when (ltb (get_or demands j 0) (get_or now j 0 + get_or own j 0)) (RackDemand plate) → v ≡ first_refusal (f j)
+    decided e = check_last _ _ (e ∙ ap (λ t. refuse_when (ltb (get_or demands j 0) (t + get_or own j 0)) (RackDemand plate)) here)
 
-    pub adding_stops : j < count → {b : Bool} → b ≡ ltb (get_or demands j 0) (get_or now j 0 + get_or own j 0) → refuse_when b (RackDemand plate) ≡ Refused (RackDemand plate) → TotalsAfter count demands plate totals own now (Refused (RackDemand plate))
-    adding_stops l e p = record { decided = sym p ∙ stops f j count l g.decides (decided e) p; added = λ z. no_pass z }
+    pub adding_stops : j < count → {v : Checked} {x : Refusal} → v ≡ refuse_when (ltb (get_or demands j 0) (get_or now j 0 + get_or own j 0)) (RackDemand plate) → v ≡ Err x → (r : Checked) → IsErrAnd r (λ y. y ≡ x) → TotalsAfter count demands plate totals own now r
+    adding_stops l e p r h = let q = handed r h in record { decided = q ∙ sym p ∙ stops f j count l g.decides (decided e) p; added = λ z. no_pass (sym q ∙ z) }
 
-    pub adding_goes : j < count → {b : Bool} {v : ℕ} → b ≡ ltb (get_or demands j 0) (get_or now j 0 + get_or own j 0) → refuse_when b (RackDemand plate) ≡ Passed → v ≡ get_or now j 0 + get_or own j 0 → Adding count demands plate totals own (set now j v) (j + 1)
+    pub adding_goes : j < count → {v : Checked} → v ≡ refuse_when (ltb (get_or demands j 0) (get_or now j 0 + get_or own j 0)) (RackDemand plate) → v ≡ passed → Adding count demands plate totals own (set now j (get_or now j 0 + get_or own j 0)) (j + 1)
     unfolding with_own
-    adding_goes l {b} {v} e p q =
+    adding_goes l e p =
         record {
           inside = omega arith;
           decides = passes f j count l g.decides (decided e) p;
-          added = ap (set now j) (q ∙ ap (λ t. t + get_or own j 0) here) ∙ ap (λ l. set l j (get_or totals j 0 + get_or own j 0)) g.added ∙ ap (with_own totals own) (sym (add-one j));
+          added = ap (λ t. set now j (t + get_or own j 0)) here ∙ ap (λ l. set l j (get_or totals j 0 + get_or own j 0)) g.added ∙ ap (with_own totals own) (sym (add-one j));
         }
 
-    pub adding_ends : count ≤ j → TotalsAfter count demands plate totals own now Passed
+    pub adding_ends : count ≤ j → TotalsAfter count demands plate totals own now passed
     adding_ends h = let e : j ≡ count = omega (arith, g.inside) in record { decided = ends f j count h g.decides; added = λ z. g.added ∙ ap (with_own totals own) e }
 
 -- where 29 passes, no kind's total passes its demand
-pub totals_within : (count : ℕ) (demand : ℕ → ℕ) (plate : ℕ) (totals own : List ℕ) → first_refusal (each_kind (total_check demand plate totals own) 0 count) ≡ Passed
+pub totals_within : (count : ℕ) (demand : ℕ → ℕ) (plate : ℕ) (totals own : List ℕ) → first_refusal (each_kind (total_check demand plate totals own) 0 count) ≡ passed
     → (j : ℕ) → j < count → get_or totals j 0 + get_or own j 0 ≤ demand j
 totals_within count demand plate totals own p j l = ltb-false (demand j) (get_or totals j 0 + get_or own j 0) (cons_passed _ _ _ (each_passed (total_check demand plate totals own) 0 count j p (omega arith) (omega (arith, l)))).0

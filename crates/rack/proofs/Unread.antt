@@ -1,14 +1,14 @@
 -- Between blocks that differ only in the sides of their plates the checks before any plan's are equal, and so is everything that the rack
 -- answers.
-use Rattle.rack.proofs.Prelude.{◌≡◌, ◌∙◌, refl, sym, ap, ap₂, Bool, true, false, not, List, [], ◌∷◌, ◌++◌, ℕ, zero, suc, ◌+◌, ◌*◌, ◌≤◌, arith, ltb, eqb, length, get_or, set, Rect, Job, ShortHeader, KindCount, Kerf, BlockLength, KindSide, Price, Demand, Grain, next, first_refusal, Choices, u16_at, u32_at, plate_length_at, plate_width_at, count_at, kerf_at, sizes_end, length_at, width_at, price_at, demand_at, outside, sides_outside, each_kind, entries, record_of, job_from, grain_at, kind_bytes, grain_checks, grains_of, block_job, sizes_least, plan_checks, plated, plate_at, rack_size_check, order_checks, plate_checks, rack_checks, own_answer, total_checks, with_own, rack_by, rack_walk, plans_answer, rack_answer, OnlyPlate}
+use Rattle.rack.proofs.Prelude.{◌≡◌, ◌∙◌, refl, sym, ap, ap₂, Bool, true, false, not, List, [], ◌∷◌, ◌++◌, ℕ, zero, suc, ◌+◌, ◌*◌, ◌≤◌, arith, ltb, eqb, length, get_or, set, Rect, Job, ShortHeader, KindCount, Kerf, BlockLength, KindSide, Price, Demand, Grain, first_refusal, Choices, u16_at, u32_at, plate_length_at, plate_width_at, count_at, kerf_at, sizes_end, length_at, width_at, price_at, demand_at, outside, sides_outside, each_kind, entries, record_of, job_from, grain_at, kind_bytes, grain_checks, grains_of, block_job, sizes_least, plan_checks, plated, plate_at, rack_size_check, order_checks, plate_checks, rack_checks, own_answer, total_checks, with_own, and_then, proceed, rack_walk, plans_answer, rack_answer, OnlyPlate}
 
 -- no plan reads the job's own plate
 walk_unread : (J : Job) (r : Rect) (plate : ℕ → Rect) (kinds operands : List ℕ) (i m k : ℕ) (totals profits : List ℕ) → rack_walk (plated J r) plate kinds operands i m k totals profits ≡ rack_walk J plate kinds operands i m k totals profits
 unfolding rack_walk
 walk_unread J r plate kinds operands i zero k totals profits = refl
 walk_unread J r plate kinds operands i (suc m) k totals profits =
-    let a = own_answer (plated J (plate i)) kinds operands k in
-    ap (rack_by (next a.verdict (first_refusal (total_checks J i totals a.report.copies)))) (walk_unread J r plate kinds operands (i + 1) m a.past (with_own totals a.report.copies J.count) (set profits i a.report.profit))
+    λ j. and_then (own_answer (plated J (plate i)) kinds operands k)
+    (λ t. proceed (first_refusal (total_checks J i totals t.report.copies)) (walk_unread J r plate kinds operands (i + 1) m t.past (with_own totals t.report.copies J.count) (set profits i t.report.profit) j))
 
 module _ (choices : Choices) (s z : List ℕ) (same : OnlyPlate s z) where
   abbrev old : Bool
@@ -75,5 +75,5 @@ module _ (choices : Choices) (s z : List ℕ) (same : OnlyPlate s z) where
   pub same_answer : (lengths widths kinds operands : List ℕ) → rack_answer s choices lengths widths kinds operands ≡ rack_answer z choices lengths widths kinds operands
   unfolding rack_checks plans_answer
   same_answer lengths widths kinds operands =
-      ap₂ rack_by (λ i. first_refusal (rack_size_check lengths widths ∷ (same_order i ++ (plate_checks (plate_at lengths widths) (length lengths) ++ plan_checks kinds operands))))
+      ap₂ proceed (λ i. first_refusal (rack_size_check lengths widths ∷ (same_order i ++ (plate_checks (plate_at lengths widths) (length lengths) ++ plan_checks kinds operands))))
       (sym (ap (λ J. plans_answer J (plate_at lengths widths) (length lengths) kinds operands) same_job ∙ walk_unread (block_job s choices) (plate_length_at z, plate_width_at z) (plate_at lengths widths) kinds operands 0 (length lengths) 0 _ _))

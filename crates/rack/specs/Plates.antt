@@ -1,28 +1,9 @@
--- What only the inner contracts of the rack cite: a job that was read on another plate, arrays of the sides of 1 to 16 plates, and the totals
--- after a plan.
+-- What only the inner contracts of the rack cite: arrays of the sides of 1 to 16 plates, and the totals after a plan.
 use Rattle.std.specs.Prelude.{◌≡◌, List, ℕ, ◌≤◌, length, get_or}
 use Rattle.refusal.specs.Refusals.{first_refusal}
-use Rattle.promises.specs.declared.Checked.{Checked}
-use Rattle.promises.specs.declared.Checked.TheVariants.{Passed}
-use Rattle.promises.specs.declared.JobRecord.{JobRecord}
 use Rattle.job.specs.Block.{each_kind}
 use Rattle.rack.specs.Check.{most_plates, total_check, with_own}
-
--- the record of a job on another plate
-abbrev pub on_plate : JobRecord → ℕ → ℕ → JobRecord
-on_plate j l w = record {
-  length = l;
-  width = w;
-  count = j.count;
-  kerf = j.kerf;
-  turning = j.turning;
-  full_demand = j.full_demand;
-  lengths = j.lengths;
-  widths = j.widths;
-  prices = j.prices;
-  demands = j.demands;
-  grains = j.grains;
-}
+use Rattle.promises.specs.Refusals.{passed, Checked}
 
 -- a length and a width of each of at most 16 plates
 abbrev pub OneEach : List ℕ → List ℕ → Type 0
@@ -31,4 +12,4 @@ OneEach lengths widths = (length lengths ≡ length widths) × (length lengths �
 -- 29 decides for a plate, and where it passes, its own copies are in the totals
 pub record TotalsAfter (count : ℕ) (demands : List ℕ) (plate : ℕ) (totals own after : List ℕ) (v : Checked) : Type 0 where
   pub decided : v ≡ first_refusal (each_kind (total_check (λ j. get_or demands j 0) plate totals own) 0 count)
-  pub added : v ≡ Passed → after ≡ with_own totals own count
+  pub added : v ≡ passed → after ≡ with_own totals own count

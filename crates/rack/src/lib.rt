@@ -2,77 +2,41 @@
 // up against one demand. The job's own plate is not read.
 #![tactic(auto)]
 
-ghost use Rattle.std.specs.Prelude.{◌≡◌, [], ◌∷◌, ◌+◌, ◌≤◌, ◌<◌, length, get_or, ltb};
+ghost use Rattle.std.specs.Prelude.{◌≡◌, [], ◌∷◌, ◌+◌, ◌≤◌, ◌<◌, length, take};
 ghost use Rattle.cutting.specs.Limits.{most_kinds};
 ghost use Rattle.refusal.specs.Refusals.{first_refusal};
 ghost use Rattle.job.specs.Block.{job_of};
 ghost use Rattle.plan.specs.Walk.{Walkable, Held};
-ghost use Rattle.rack.specs.Check.{most_plates, plate_at, rack_size_check, plate_checks, rack_checks, own_answer, rack_stopped, plans_answer};
+ghost use Rattle.rack.specs.Check.{most_plates, plate_at, rack_size_check, plate_checks, rack_checks, own_answer, plans_answer};
 ghost use Rattle.rack.specs.Promises.{PlatesPromises};
-ghost use Rattle.rack.specs.Plates.{on_plate, OneEach, TotalsAfter};
-ghost use Rattle.rack.specs.Records.{paid, paid_count, RackPromises};
-ghost use Rattle.rack.specs.Read.{read_count, no_sides, with_plate, sides_of, first_answer};
+ghost use Rattle.rack.specs.Plates.{OneEach, TotalsAfter};
+ghost use Rattle.rack.specs.Records.{lengths_of, widths_of, paid, RackPromises};
 
 use idle::idle_cut;
 use job::{check_block, read_record, sides_outside};
-use plan::{TreeAnswer, check_left, check_whole, stop_tree, walk_tree};
-use promises::{Checked, Choices, JobRecord, Plate, RackAnswer, Refusal};
+use plan::{TreeWalk, check_left, check_whole, walk_tree};
+use promises::{Choices, JobRecord, Plate, Refusal};
 use refusal::refuse_if;
 
-// The sides of at most 16 plates as they were read, and 0 past the last.
-#[derive(Clone, Copy, Drop)]
-pub struct RackSides {
-    pub lengths: [u16; 16],
-    pub widths: [u16; 16],
-}
-
-// An answer without profits.
-fn without_profits(verdict: Checked) -> RackAnswer
-    ensures { result ≡ rack_stopped verdict }
-{
-    RackAnswer {
-        verdict: verdict,
-        profits: [0u64; 16],
-    }
-}
-
-// A job that was read, on another plate.
-fn on_plate(job: JobRecord, length: u16, width: u16) -> JobRecord
-    ensures { result ≡ on_plate job length width }
-{
-    let mut plated = job;
-    plated.length = length;
-    plated.width = width;
-    plated
-}
-
 // Refusal 28.
-fn check_size(lengths: &[u16], widths: &[u16]) -> Checked
+fn check_size(lengths: &[u16], widths: &[u16]) -> Result<(), Refusal>
     ensures { result ≡ first_refusal (rack_size_check lengths.now widths.now ∷ []) }
 {
     let n = lengths.len();
-    if n != widths.len() {
-        return Checked::Refused(Refusal::RackSize);
-    }
-    if n < 1 {
-        return Checked::Refused(Refusal::RackSize);
-    }
-    refuse_if(16 < n, Refusal::RackSize)
+    refuse_if(n != widths.len(), Refusal::RackSize)?;
+    refuse_if(n < 1 || 16 < n, Refusal::RackSize)
 }
 
 // Refusal 2, of each plate in the rack's order.
-fn check_sides(lengths: &[u16], widths: &[u16]) -> Checked
+fn check_sides(lengths: &[u16], widths: &[u16]) -> Result<(), Refusal>
     requires { OneEach lengths.now widths.now }
     ensures { result ≡ first_refusal (plate_checks (plate_at lengths.now widths.now) (length lengths.now)) }
 {
     for i in 0..lengths.len() {
         let outside = sides_outside(lengths[i], widths[i]);
-        let sides = refuse_if(outside, Refusal::RackSide(i as u16));
-        let Checked::Passed = sides else {
-            return sides;
-        };
+        refuse_if(outside, Refusal::RackSide(i as u16))?;
     }
-    Checked::Passed
+    Ok(())
 }
 
 // What stands before any plan: refusals 28, 1, 3, 27, 4 to 7, 35, 2, 10 and 11.
@@ -83,21 +47,12 @@ fn check_before(
     widths: &[u16],
     kinds: &[u8],
     operands: &[u16],
-) -> Checked
+) -> Result<(), Refusal>
     ensures { result ≡ first_refusal (rack_checks block.now choices lengths.now widths.now kinds.now operands.now) }
 {
-    let size = check_size(lengths, widths);
-    let Checked::Passed = size else {
-        return size;
-    };
-    let order = check_block(block, choices, false, true);
-    let Checked::Passed = order else {
-        return order;
-    };
-    let sides = check_sides(lengths, widths);
-    let Checked::Passed = sides else {
-        return sides;
-    };
+    check_size(lengths, widths)?;
+    check_block(block, choices, false, true)?;
+    check_sides(lengths, widths)?;
     check_whole(kinds, operands)
 }
 
@@ -110,36 +65,13 @@ fn check_own(
     first: usize,
     waiting_lengths: &mut [u16; 4096],
     waiting_widths: &mut [u16; 4096],
-) -> TreeAnswer
+) -> Result<TreeWalk, Refusal>
     requires { Walkable kinds.now operands.now × (job.count ≤ most_kinds) × (first ≤ length kinds.now) × Held waiting_lengths.old waiting_widths.old }
     ensures { (result ≡ own_answer (job_of job) kinds.now operands.now first) × Held waiting_lengths.new waiting_widths.new }
 {
-    let tree = walk_tree(job, kinds, operands, first, waiting_lengths, waiting_widths);
-    let walked = tree.verdict;
-    let Checked::Passed = walked else {
-        return stop_tree(walked);
-    };
-    let past = tree.past;
-    let idle = idle_cut(&kinds[first..past], first);
-    let Checked::Passed = idle else {
-        return stop_tree(idle);
-    };
-    tree
-}
-
-// Whether a kind's copies pass its demand.
-fn passes(total: u16, own: u16, demand: u16) -> bool
-    ensures { result ≡ ltb demand (total + own) }
-{
-    (demand as u32) < (total as u32) + (own as u32)
-}
-
-// Copies that pass no demand, added.
-fn add_within(total: u16, own: u16, demand: u16) -> u16
-    requires { total + own ≤ demand }
-    ensures { result ≡ total + own }
-{
-    total + own
+    let tree = walk_tree(job, kinds, operands, first, waiting_lengths, waiting_widths)?;
+    idle_cut(&kinds[first..tree.past], first)?;
+    Ok(tree)
 }
 
 // Refusal 29, of one plate; where it passes, its own copies are in the totals.
@@ -149,21 +81,17 @@ fn add_copies(
     demands: &[u16; 64],
     count: u16,
     plate: u16,
-) -> Checked
+) -> Result<(), Refusal>
     requires { count ≤ most_kinds }
     ensures { TotalsAfter count demands.now plate totals.old own.now totals.new result }
 {
     for j in 0..count {
         let k = j as usize;
-        let total = totals[k];
-        let more = own[k];
-        let demand = demands[k];
-        if passes(total, more, demand) {
-            return Checked::Refused(Refusal::RackDemand(plate));
-        }
-        totals[k] = add_within(total, more, demand);
+        let total = totals[k] as u32 + own[k] as u32;
+        refuse_if((demands[k] as u32) < total, Refusal::RackDemand(plate))?;
+        totals[k] = total as u16;
     }
-    Checked::Passed
+    Ok(())
 }
 
 // The plans in the rack's order: refusals 12 to 17, 36, 26 and 29 of each, and 18 after the last.
@@ -173,47 +101,40 @@ fn check_plans(
     widths: &[u16],
     kinds: &[u8],
     operands: &[u16],
-) -> RackAnswer
+) -> Result<[u64; 16], Refusal>
     requires { OneEach lengths.now widths.now × Walkable kinds.now operands.now × (job.count ≤ most_kinds) }
     ensures { result ≡ plans_answer (job_of job) (plate_at lengths.now widths.now) (length lengths.now) kinds.now operands.now }
 {
-    let demands = job.demands;
     let mut totals = [0u16; 64];
     let mut profits = [0u64; 16];
     let mut waiting_lengths = [0u16; 4096];
     let mut waiting_widths = [0u16; 4096];
     let mut k: usize = 0;
     for i in 0..lengths.len() {
-        let plated = on_plate(job, lengths[i], widths[i]);
-        let a = check_own(
-            plated,
+        let tree = check_own(
+            JobRecord {
+                length: lengths[i],
+                width: widths[i],
+                ..job
+            },
             kinds,
             operands,
             k,
             &mut waiting_lengths,
             &mut waiting_widths,
-        );
-        let verdict = a.verdict;
-        let Checked::Passed = verdict else {
-            return without_profits(verdict);
-        };
-        let report = a.report;
-        let own = report.copies;
-        let shared = add_copies(&mut totals, &own, &demands, job.count, i as u16);
-        let Checked::Passed = shared else {
-            return without_profits(shared);
-        };
-        profits[i] = report.profit;
-        k = a.past;
+        )?;
+        add_copies(
+            &mut totals,
+            &tree.report.copies,
+            &job.demands,
+            job.count,
+            i as u16,
+        )?;
+        profits[i] = tree.report.profit;
+        k = tree.past;
     }
-    let left = check_left(kinds.len(), k);
-    let Checked::Passed = left else {
-        return without_profits(left);
-    };
-    RackAnswer {
-        verdict: Checked::Passed,
-        profits: profits,
-    }
+    check_left(kinds.len(), k)?;
+    Ok(profits)
 }
 
 // A rack of plates, by the arrays of their sides, checked for a job block: refusals 28, 1, 3, 27, 4 to 7, 35, 2, 10 and 11; then plan after
@@ -225,139 +146,37 @@ pub fn check_plates(
     widths: &[u16],
     kinds: &[u8],
     operands: &[u16],
-) -> RackAnswer
+) -> Result<[u64; 16], Refusal>
     ensures { PlatesPromises block.now choices lengths.now widths.now kinds.now operands.now result }
 {
-    let before = check_before(block, choices, lengths, widths, kinds, operands);
-    let Checked::Passed = before else {
-        return without_profits(before);
-    };
-    let job = read_record(block, choices);
-    check_plans(job, lengths, widths, kinds, operands)
+    check_before(block, choices, lengths, widths, kinds, operands)?;
+    check_plans(
+        read_record(block, choices),
+        lengths,
+        widths,
+        kinds,
+        operands,
+    )
 }
 
-// How many of n plates are read: all of a rack of at most 16, and else none.
-fn read_count(n: usize) -> usize
-    ensures { result ≡ read_count n }
+// Reads the sides of a rack's plates into the first entries of two arrays.
+fn read_sides(rack: &[Plate], lengths: &mut [u16; 16], widths: &mut [u16; 16])
+    requires { length rack.now ≤ most_plates }
+    ensures { (take (length rack.now) lengths.new ≡ lengths_of rack.now) × (take (length rack.now) widths.new ≡ widths_of rack.now) }
 {
-    if 16 < n { 0 } else { n }
-}
-
-// The sides of no plate.
-fn no_sides() -> RackSides
-    ensures { result ≡ no_sides }
-{
-    RackSides {
-        lengths: [0u16; 16],
-        widths: [0u16; 16],
+    for i in 0..rack.len() {
+        lengths[i] = rack[i].length;
+        widths[i] = rack[i].width;
     }
 }
 
-// The sides with those of one more plate.
-fn with_plate(sides: RackSides, at: usize, plate: Plate) -> RackSides
-    requires { at < most_plates }
-    ensures { result ≡ with_plate sides at plate }
+// Writes the profits into the records of their plates.
+fn settle(rack: &mut [Plate], profits: [u64; 16])
+    requires { length rack.old ≤ most_plates }
+    ensures { rack.new ≡ paid rack.old profits (length rack.old) }
 {
-    let mut lengths = sides.lengths;
-    let mut widths = sides.widths;
-    lengths[at] = plate.length;
-    widths[at] = plate.width;
-    RackSides {
-        lengths: lengths,
-        widths: widths,
-    }
-}
-
-// The sides of a rack's plates.
-fn read_sides(rack: &[Plate]) -> RackSides
-    ensures { result ≡ sides_of rack.now (read_count (length rack.now)) }
-{
-    let count = read_count(rack.len());
-    let mut sides = no_sides();
-    let mut i: usize = 0;
-    while i < count {
-        sides = with_plate(sides, i, rack[i]);
-        i += 1;
-    }
-    sides
-}
-
-// A rack of n plates by the arrays that their sides were read to; more than 16 are refused unread.
-fn check_first(
-    block: &[u8],
-    choices: Choices,
-    lengths: [u16; 16],
-    widths: [u16; 16],
-    n: usize,
-    kinds: &[u8],
-    operands: &[u16],
-) -> RackAnswer
-    ensures { result ≡ first_answer block.now choices lengths widths n kinds.now operands.now }
-{
-    if 16 < n {
-        return without_profits(Checked::Refused(Refusal::RackSize));
-    }
-    check_plates(block, choices, &lengths[..n], &widths[..n], kinds, operands)
-}
-
-// A rack of n plates by the sides that were read of them.
-fn check_read(
-    block: &[u8],
-    choices: Choices,
-    sides: RackSides,
-    n: usize,
-    kinds: &[u8],
-    operands: &[u16],
-) -> RackAnswer
-    ensures { result ≡ first_answer block.now choices sides.lengths sides.widths n kinds.now operands.now }
-{
-    let lengths = sides.lengths;
-    let widths = sides.widths;
-    check_first(block, choices, lengths, widths, n, kinds, operands)
-}
-
-// The verdict alone.
-fn verdict_of(a: RackAnswer) -> Checked
-    ensures { result ≡ a.verdict }
-{
-    a.verdict
-}
-
-// How many profits are written to n plates: all where the rack passes, and else none.
-fn paid_count(a: RackAnswer, n: usize) -> usize
-    ensures { result ≡ paid_count a.verdict n }
-{
-    let verdict = a.verdict;
-    match verdict {
-        Checked::Passed => n,
-        Checked::Refused(_) => 0,
-    }
-}
-
-// One of the profits, and 0 past the last.
-fn profit_at(profits: [u64; 16], at: usize) -> u64
-    ensures { result ≡ get_or profits at 0 }
-{
-    if at < 16 { profits[at] } else { 0 }
-}
-
-// The profit of one plate.
-fn profit_of(a: RackAnswer, at: usize) -> u64
-    ensures { result ≡ get_or a.profits at 0 }
-{
-    let profits = a.profits;
-    profit_at(profits, at)
-}
-
-// Where the rack passes the profits are written, in the rack's order.
-fn settle(rack: &mut [Plate], a: RackAnswer)
-    ensures { rack.new ≡ paid rack.old a.profits (paid_count a.verdict (length rack.old)) }
-{
-    let count = paid_count(a, rack.len());
-    let mut i: usize = 0;
-    while i < count {
-        rack[i].profit = profit_of(a, i);
-        i += 1;
+    for i in 0..rack.len() {
+        rack[i].profit = profits[i];
     }
 }
 
@@ -369,11 +188,15 @@ pub fn check_rack(
     rack: &mut [Plate],
     kinds: &[u8],
     operands: &[u16],
-) -> Checked
+) -> Result<(), Refusal>
     ensures { RackPromises block.now choices rack.old rack.new kinds.now operands.now result }
 {
-    let sides = read_sides(rack);
-    let a = check_read(block, choices, sides, rack.len(), kinds, operands);
-    settle(rack, a);
-    verdict_of(a)
+    let n = rack.len();
+    refuse_if(16 < n, Refusal::RackSize)?;
+    let mut lengths = [0u16; 16];
+    let mut widths = [0u16; 16];
+    read_sides(rack, &mut lengths, &mut widths);
+    let profits = check_plates(block, choices, &lengths[..n], &widths[..n], kinds, operands)?;
+    settle(rack, profits);
+    Ok(())
 }

@@ -4,7 +4,7 @@
 use Rattle.std.specs.Prelude.{ℕ}
 use Rattle.promises.specs.declared.Refusal.{Refusal}
 use Rattle.promises.specs.Refusals.{line_of}
-pub use Rattle.promises.specs.Refusals.{Check, refuse_when, by_check, next, Outcome, refused_as, outcome_by}
+pub use Rattle.promises.specs.Refusals.{Answer, Checked, passed, Check, refuse_when, by_check, answer_by, verdict_of, next, Outcome, refused_as, outcome_by, outcome_of}
 unfoldable pub use Rattle.promises.specs.Refusals.{first_refusal}
 
 -- the table's number of a refusal

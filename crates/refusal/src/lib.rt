@@ -5,7 +5,7 @@
 ghost use Rattle.std.specs.Prelude.{◌≡◌};
 ghost use Rattle.refusal.specs.Refusals.{number_of, place_of, refuse_when};
 
-use promises::{Checked, Refusal};
+use promises::Refusal;
 
 // A line of the table: the number and the place.
 #[derive(Clone, Copy, Drop)]
@@ -73,12 +73,8 @@ pub fn place(r: Refusal) -> u64
 }
 
 // One line of the table: refused where its condition holds.
-pub fn refuse_if(condition: bool, r: Refusal) -> Checked
+pub fn refuse_if(condition: bool, r: Refusal) -> Result<(), Refusal>
     ensures { result ≡ refuse_when condition r }
 {
-    if condition {
-        Checked::Refused(r)
-    } else {
-        Checked::Passed
-    }
+    if condition { Err(r) } else { Ok(()) }
 }

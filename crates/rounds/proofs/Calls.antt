@@ -1,8 +1,10 @@
 -- What the call promises, from the verdicts of the job and of the lent plan and from the run of the rounds.
-use Rattle.rounds.proofs.Prelude.{◌≡◌, refl, sym, ◌∙◌, ap, subst, Bool, true, false, ◌||◌, List, ℕ, zero, suc, ◌≤◌, ◌<◌, ℕ_discrete, arith, ltb-true, ltb-false, ltb, eqb, length, take, length-take-le, Job, by_kind, capacity, bound_of, NoneAbove, range_solid, plan_idle, by_weight_monotone, any_on, none_finer, none_above, next, first_refusal, outcome_by, Refusal, Checked, Passed, Refused, Choices, job_checks, block_job, weight_in, entries_length, read_in_range, both_accepted, Report, PlanAnswer, proceed, plan_answer, arrays_answer, plans_checked, WeightsFound, pick_number, Lent, weight_at, round_verdict, rounds_by, rounds_run, bound_at, best_round, found, refused_answer, find_answer_by, before_verdict, lower_figure, run_answer, find_verdict, find_found, find_answer, found_values, found_outcome, find_said, refuses, last_here, last_round, within, plan_copies, RunLeaves, LeastMet, RoundHolds, BoundAgain, FindPromises, step_rules}
+use Rattle.rounds.proofs.Prelude.{◌≡◌, refl, sym, ◌∙◌, ap, subst, Bool, true, false, ◌||◌, List, ℕ, zero, suc, ◌≤◌, ◌<◌, ℕ_discrete, arith, ltb-true, ltb-false, ltb, eqb, length, take, length-take-le, Job, by_kind, capacity, bound_of, NoneAbove, range_solid, plan_idle, by_weight_monotone, any_on, none_finer, none_above, first_refusal, Refusal, Choices, job_checks, block_job, weight_in, entries_length, read_in_range, both_accepted, Report, proceed, plan_answer, plans_checked, WeightsFound, pick_number, Lent, weight_at, round_verdict, rounds_by, rounds_run, bound_at, best_round, found, before_verdict, lower_figure, run_answer, find_verdict, find_found, find_answer, found_values, refuses, last_here, last_round, within, plan_copies, LeastMet, RoundHolds, BoundAgain, step_rules, Ok, Err, passed, Checked, Answer, answer_by, verdict_of, RunLeaves, FindPromises, FindLeaves, profit, InRange, tree_in, plan_is, drawn_is, passed_both}
+use Rattle.std.specs.Result.{IsErrAnd}
+use Rattle.refusal.proofs.Results.{value_answered, told, refused_answer, before_refuses, before_passes}
 use Rattle.rounds.proofs.Rules.{rounds_most, stop_rules}
-use Rattle.rounds.proofs.Run.{neither, weights_good, weight_past, no_capacity}
-use Rattle.rounds.proofs.Ends.{listed}
+use Rattle.rounds.proofs.Run.{neither, weight_past, no_capacity}
+use Rattle.rounds.proofs.Ends.{listed, weights_good}
 
 module _ (J : Job) (lower : ℕ) where
   -- the best round's bound is the least, and no earlier round has it
@@ -51,37 +53,21 @@ module _ (J : Job) (lower : ℕ) where
     first = λ k l. best_first n k l;
   }
 
-  -- its verdict and its rounds
-  pub found_passed : (n : ℕ) → ((found J lower n).verdict ≡ Passed) × ((found J lower n).rounds ≡ n)
+  -- its rounds
+  found_rounds : (n : ℕ) → (found J lower n).rounds ≡ n
   unfolding found
-  found_passed zero = (refl, refl)
-  found_passed (suc n) = (refl, refl)
+  found_rounds zero = refl
+  found_rounds (suc n) = refl
 
 module _ (J : Job) (lower : ℕ) (m : Lent) where
   -- a run that began has counted a round
-  rounds_some : round_verdict J (weight_at J lower 0) m ≡ Passed → 1 ≤ rounds_run J lower m
+  rounds_some : round_verdict J (weight_at J lower 0) m ≡ passed → 1 ≤ rounds_run J lower m
   rounds_some p = go (last_round J lower m) (round_verdict J (weight_at J lower (last_round J lower m)) m) refl refl
     where
       go : (k : ℕ) (v : Checked) → last_round J lower m ≡ k → round_verdict J (weight_at J lower (last_round J lower m)) m ≡ v → 1 ≤ rounds_by v (last_round J lower m)
-      go k Passed e f = omega arith
-      go zero (Refused x) e f = let q = ap (λ i. round_verdict J (weight_at J lower i) m) e in absurd (let z : ◌≡◌ {A = ℕ} 0 1 = cc in omega arith)
-      go (suc k) (Refused x) e f = omega (arith, e)
-
-  -- so what it answers is the least bound met
-  run_least : (run_answer J lower m).verdict ≡ Passed → LeastMet J lower (run_answer J lower m)
-  run_least = go (round_verdict J (weight_at J lower 0) m) refl
-    where
-      go : (v : Checked) → round_verdict J (weight_at J lower 0) m ≡ v → (find_answer_by v (found J lower (rounds_run J lower m))).verdict ≡ Passed → LeastMet J lower (find_answer_by v (found J lower (rounds_run J lower m)))
-      go Passed e p = found_least J lower (rounds_run J lower m) (rounds_some e)
-      go (Refused x) e p = absurd (let z : ◌≡◌ {A = ℕ} 0 1 = cc in omega arith)
-
-  -- an answer that counts a round counts the rounds run
-  run_rounds : {r : WeightsFound} {k : ℕ} → r ≡ run_answer J lower m → k < r.rounds → r.rounds ≡ rounds_run J lower m
-  run_rounds {r} {k} = go (round_verdict J (weight_at J lower 0) m)
-    where
-      go : (v : Checked) → r ≡ find_answer_by v (found J lower (rounds_run J lower m)) → k < r.rounds → r.rounds ≡ rounds_run J lower m
-      go Passed e h = ap (λ (x : WeightsFound). x.rounds) e ∙ (found_passed J lower (rounds_run J lower m)).1
-      go (Refused x) e h = absurd (omega (arith, ap (λ (x : WeightsFound). x.rounds) e))
+      go k (Ok _) e f = omega arith
+      go zero (Err x) e f = let q = ap (λ i. round_verdict J (weight_at J lower i) m) e in absurd (let z : ◌≡◌ {A = ℕ} 0 1 = cc in omega arith)
+      go (suc k) (Err x) e f = omega (arith, e)
 
   -- a round that is begun has a capacity of at most 4,095
   begun_capacity : (k : ℕ) → k ≤ last_round J lower m → capacity J (weight_at J lower k) ≤ 4095
@@ -99,25 +85,14 @@ module _ (J : Job) (lower : ℕ) (m : Lent) where
   counted_begun k = go (round_verdict J (weight_at J lower (last_round J lower m)) m)
     where
       go : (v : Checked) → k < rounds_by v (last_round J lower m) → k ≤ last_round J lower m
-      go Passed h = omega arith
-      go (Refused x) h = omega arith
+      go (Ok _) h = omega arith
+      go (Err x) h = omega arith
 
-  -- and at most 18 rounds are run
-  run_few : (run_answer J lower m).rounds ≤ 18
-  run_few = go (round_verdict J (weight_at J lower 0) m)
-    where
-      go : (v : Checked) → (find_answer_by v (found J lower (rounds_run J lower m))).rounds ≤ 18
-      go Passed = omega (arith, (found_passed J lower (rounds_run J lower m)).1, rounds_most J lower m)
-      go (Refused x) = omega arith
-
--- a refusal is no pass
-unlike : {A : Type 0} {x : Refusal} → ◌≡◌ {A = Checked} (Refused x) Passed → A
-unlike e = absurd (let z : ◌≡◌ {A = ℕ} 0 1 = cc in omega arith)
-
--- the number and values of an answer, where what stands behind its verdict passes
-said_by : (v : Checked) (a : WeightsFound) → a.verdict ≡ Passed → found_outcome (find_answer_by v a) ≡ outcome_by v (found_values a)
-said_by Passed a e = ap (λ v. outcome_by v (found_values a)) e
-said_by (Refused r) a e = refl
+-- a plan's answer after the job's checks: both passed
+both_pass : (v : Checked) (a : Answer Report) → verdict_of (proceed v a) ≡ passed → (v ≡ passed) × (r : Report) × (a ≡ Ok r)
+both_pass (Ok _) (Ok r) p = (refl, r, refl)
+both_pass (Ok _) (Err x) p = absurd (let z : ◌≡◌ {A = ℕ} 0 1 = cc in omega arith)
+both_pass (Err x) a p = absurd (let z : ◌≡◌ {A = ℕ} 0 1 = cc in omega arith)
 
 module _ (s : List ℕ) (choices : Choices) (kinds operands : List ℕ) where
   -- the job of the block, and the lower figure
@@ -127,93 +102,93 @@ module _ (s : List ℕ) (choices : Choices) (kinds operands : List ℕ) where
   abbrev lower : ℕ
   lower = lower_figure s choices kinds operands
 
-  -- the profit of a lent plan that passed is at most every bound
-  pub low : first_refusal (job_checks s choices) ≡ Passed → (plan_answer J kinds operands).verdict ≡ Passed → (weight : ℕ → ℕ) → (plan_answer J kinds operands).report.profit ≤ bound_of J weight
-  low good passed weight =
-      let t = (plans_checked J (read_in_range s choices good).kinds.1 kinds operands).tree passed in
-      omega (arith, ap (λ (r : Report). r.profit) t.2.own, none_above J weight (read_in_range s choices good) t.0 (any_on J t.0 t.1.drawn.on_plate) t.1.drawn.demands)
+  module _ (good : first_refusal (job_checks s choices) ≡ passed) {report : Report} (p : plan_answer J kinds operands ≡ Ok report) where
+    range : InRange J
+    range = read_in_range s choices good
 
-  module _ (old new : Lent) where
-    -- number and values of the answer
-    said : found_outcome (find_answer s choices kinds operands old) ≡ find_said s choices kinds operands old
-    said = said_by (find_verdict s choices kinds operands old) (find_found s choices kinds operands old) (found_passed J lower (rounds_run J lower old)).0
+    -- the profit of a lent plan that passed is the lower figure, at most every bound
+    pub low_is : report.profit ≡ lower
+    low_is = let t = (plans_checked J range.kinds.1 kinds operands).tree _ p in ap (λ (r : Report). r.profit) t.2.own ∙ ap (profit J) (drawn_is J kinds operands t.0 t.1.drawn)
+
+    pub low : (weight : ℕ → ℕ) → lower ≤ bound_of J weight
+    low weight = let t = plan_is J range.kinds.1 kinds operands p in none_above J weight range (tree_in kinds operands) (any_on J (tree_in kinds operands) t.drawn.on_plate) t.drawn.demands
+
+    -- every round's gap is a true difference, and no plan of one has an idle cut
+    holds : (k : ℕ) → RoundHolds J lower k
+    holds k = record { gap_is = omega (arith, low (weight_at J lower k)); idle_free = plan_idle J (by_kind (weight_at J lower k)) (by_weight_monotone _) (range_solid J range) _ _ _ }
+
+  module _ (old : Lent) where
+    -- an answer has the least bound of the rounds run
+    module _ {r : Answer WeightsFound} (e : r ≡ find_answer s choices kinds operands old) {a : WeightsFound} (f : r ≡ Ok a) where
+      value : (find_verdict s choices kinds operands old ≡ passed) × (a ≡ find_found s choices kinds operands old)
+      value = value_answered _ _ (sym e ∙ f)
+
+      -- the checks before the rounds passed, and those of round 0
+      verdicts : (before_verdict s choices kinds operands ≡ passed) × (round_verdict J (weight_at J lower 0) old ≡ passed)
+      verdicts = passed_both _ _ value.0
+
+      before : (first_refusal (job_checks s choices) ≡ passed) × (report : Report) × (plan_answer J kinds operands ≡ Ok report)
+      before = both_pass _ _ verdicts.0
+
+      counted : a.rounds ≡ rounds_run J lower old
+      counted = ap (λ (x : WeightsFound). x.rounds) value.1 ∙ found_rounds J lower (rounds_run J lower old)
+
+      least_met : LeastMet J lower a
+      least_met = subst (LeastMet J lower) (sym value.1) (found_least J lower (rounds_run J lower old) (rounds_some J lower old verdicts.1))
+
+      none_more : NoneAbove J a.bound
+      none_more t g k = let b = least_met in omega (arith, b.bound_is, none_above J (weight_at J lower b.round) (read_in_range s choices before.0) t g k)
+
+      -- the weights of the least bound are accepted, and the bound is theirs
+      given_again : BoundAgain s choices a
+      given_again =
+          let l = least_met in
+          let w = weight_at J lower l.round in
+          let few = (read_in_range s choices before.0).kinds.1 in
+          let ws : weight_in (take J.count a.weights) ≡ w = ap (λ x. weight_in (take J.count x)) l.weights_are ∙ listed w J.count few (weight_past J lower l.round) in
+          let many : length (take J.count a.weights) ≡ J.count = length-take-le J.count a.weights (omega (arith, ap length l.weights_are, entries_length w J.count, few)) in
+          let small = begun_capacity J lower old l.round (counted_begun J lower old l.round (omega (arith, l.met, counted))) in
+          record {
+            accepted = both_accepted s choices (take J.count a.weights) before.0 (weights_good J (take J.count a.weights) many (subst (λ v. capacity J v ≤ 4095) (sym ws) small));
+            bound_is = l.bound_is ∙ ap (bound_of J) (sym ws);
+          }
+
+    -- the answer and the memory give the rest
+    promised : {new : Lent} {r : Answer WeightsFound} → r ≡ find_answer s choices kinds operands old → FindLeaves s choices kinds operands old new → FindPromises s choices kinds operands old new r
+    promised e l = record {
+      answers = e;
+      outcome = (told found_values _ _ e).1;
+      memory = l;
+      least = λ a f. least_met e f;
+      again = λ a f. given_again e f;
+      rounds = λ a f. omega (arith, counted e f, rounds_most J lower old);
+      each = λ a f k h. holds (before e f).0 (before e f).2 k;
+      demands = λ a f. none_more e f;
+      finer = λ a f. none_finer J (range_solid J (read_in_range s choices (before e f).0)) a.bound (none_more e f);
+      steps = step_rules;
+      stop = stop_rules J lower old;
+    }
 
     -- a check before the rounds refuses
-    refused_by : {x : Refusal} {r : WeightsFound} → before_verdict s choices kinds operands ≡ Refused x → r ≡ refused_answer (Refused x) → new ≡ old → FindPromises s choices kinds operands old new r
-    refused_by {x} {r} v e o =
-        let a = e ∙ sym (ap (λ v. find_answer_by (next v (round_verdict J (weight_at J lower 0) old)) (find_found s choices kinds operands old)) v) in
-        record {
-          answers = a;
-          outcome = ap (λ x. found_outcome x) a ∙ said;
-          memory = rw v o;
-          least = λ p. unlike (sym (ap (λ (x : WeightsFound). x.verdict) e) ∙ p);
-          again = λ p. unlike (sym (ap (λ (x : WeightsFound). x.verdict) e) ∙ p);
-          rounds = omega (arith, ap (λ (x : WeightsFound). x.rounds) e);
-          each = λ p. unlike (sym (ap (λ (x : WeightsFound). x.verdict) e) ∙ p);
-          demands = λ p. unlike (sym (ap (λ (x : WeightsFound). x.verdict) e) ∙ p);
-          finer = λ p. unlike (sym (ap (λ (x : WeightsFound). x.verdict) e) ∙ p);
-          steps = step_rules;
-          stop = stop_rules J lower old;
-        }
+    early : {x : Refusal} {r : Answer WeightsFound} → before_verdict s choices kinds operands ≡ Err x → IsErrAnd r (λ y. y ≡ x) → FindPromises s choices kinds operands old old r
+    early v p = promised (refused_answer _ _ _ (before_refuses _ _ v) p) (rw v refl)
 
     -- the job is refused
-    pub job_refused : {v : Checked} {x : Refusal} {r : WeightsFound} → first_refusal (job_checks s choices) ≡ Refused x → v ≡ Refused x → r ≡ refused_answer v → new ≡ old → FindPromises s choices kinds operands old new r
-    job_refused e f g o = refused_by (ap (λ v. (proceed v (plan_answer J kinds operands)).verdict) e) (g ∙ ap (λ v. refused_answer v) f) o
+    pub job_refused : {x : Refusal} {r : Answer WeightsFound} → first_refusal (job_checks s choices) ≡ Err x → IsErrAnd r (λ y. y ≡ x) → FindPromises s choices kinds operands old old r
+    job_refused e p = early (ap (λ v. verdict_of (proceed v (plan_answer J kinds operands))) e) p
 
-    module _ (good : first_refusal (job_checks s choices) ≡ Passed) where
+    module _ (good : first_refusal (job_checks s choices) ≡ passed) where
       -- then the plan's check decides
-      walked : arrays_answer s choices kinds operands ≡ plan_answer J kinds operands
-      walked = ap (λ v. proceed v (plan_answer J kinds operands)) good
+      walked : before_verdict s choices kinds operands ≡ verdict_of (plan_answer J kinds operands)
+      walked = ap (λ v. verdict_of (proceed v (plan_answer J kinds operands))) good
 
       -- the lent plan is refused
-      pub plan_refused : {v : Checked} {x : Refusal} {r : WeightsFound} → (plan_answer J kinds operands).verdict ≡ Refused x → v ≡ Refused x → r ≡ refused_answer v → new ≡ old → FindPromises s choices kinds operands old new r
-      plan_refused e f g o = refused_by (ap (λ (a : PlanAnswer). a.verdict) walked ∙ e) (g ∙ ap (λ v. refused_answer v) f) o
+      pub plan_refused : {x : Refusal} {r : Answer WeightsFound} → plan_answer J kinds operands ≡ Err x → IsErrAnd r (λ y. y ≡ x) → FindPromises s choices kinds operands old old r
+      plan_refused e p = early (walked ∙ ap verdict_of e) p
 
-      module _ (passed : (plan_answer J kinds operands).verdict ≡ Passed) where
-        before_passed : before_verdict s choices kinds operands ≡ Passed
-        before_passed = ap (λ (a : PlanAnswer). a.verdict) walked ∙ passed
-
-        run_is : find_answer s choices kinds operands old ≡ run_answer J lower old
-        run_is = ap (λ v. find_answer_by (next v (round_verdict J (weight_at J lower 0) old)) (find_found s choices kinds operands old)) before_passed
-
-        -- the weights of the least bound are accepted, and the bound is theirs
-        given_again : {r : WeightsFound} → r ≡ run_answer J lower old → LeastMet J lower r → BoundAgain s choices r
-        given_again {r} e l =
-            let w = weight_at J lower l.round in
-            let kinds_most = (read_in_range s choices good).kinds.1 in
-            let ws : weight_in (take J.count r.weights) ≡ w = ap (λ x. weight_in (take J.count x)) l.weights_are ∙ listed w J.count kinds_most (weight_past J lower l.round) in
-            let many : length (take J.count r.weights) ≡ J.count = length-take-le J.count r.weights (omega (arith, ap length l.weights_are, entries_length w J.count, kinds_most)) in
-            let few = begun_capacity J lower old l.round (counted_begun J lower old l.round (omega (arith, l.met, run_rounds J lower old e l.met))) in
-            record {
-              accepted = both_accepted s choices (take J.count r.weights) good (weights_good J (take J.count r.weights) many (subst (λ v. capacity J v ≤ 4095) (sym ws) few));
-              bound_is = l.bound_is ∙ ap (bound_of J) (sym ws);
-            }
-
-        -- every round's gap is a true difference, and no plan of one has an idle cut
-        holds : (k : ℕ) → RoundHolds J lower k
-        holds k =
-            let l = low good passed (weight_at J lower k) in
-            let e = ap (λ (a : PlanAnswer). a.report.profit) walked in
-            record { gap_is = omega (arith, l, e); idle_free = plan_idle J (by_kind (weight_at J lower k)) (by_weight_monotone _) (range_solid J (read_in_range s choices good)) _ _ _ }
-
-        -- the rounds are run
-        pub ran : {r : WeightsFound} {profit : ℕ} → profit ≡ (plan_answer J kinds operands).report.profit → r ≡ run_answer J profit old → RunLeaves J profit old new → FindPromises s choices kinds operands old new r
-        ran {r} {profit} l a m =
-            let f : profit ≡ lower = l ∙ sym (ap (λ (a : PlanAnswer). a.report.profit) walked) in
-            let e = a ∙ ap (λ n. run_answer J n old) f in
-            let best : r.verdict ≡ Passed → LeastMet J lower r = λ p. subst (LeastMet J lower) (sym e) (run_least J lower old (sym (ap (λ (x : WeightsFound). x.verdict) e) ∙ p)) in
-            let range = read_in_range s choices good in
-            let none : r.verdict ≡ Passed → NoneAbove J r.bound = λ p t g k. (let b = best p in omega (arith, b.bound_is, none_above J (weight_at J lower b.round) range t g k)) in
-            record {
-              answers = e ∙ sym run_is;
-              outcome = ap (λ x. found_outcome x) (e ∙ sym run_is) ∙ said;
-              memory = rw before_passed (subst (λ n. RunLeaves J n old new) f m);
-              least = best;
-              again = λ p. given_again e (best p);
-              rounds = omega (arith, ap (λ (x : WeightsFound). x.rounds) e, run_few J lower old);
-              each = λ p k h. holds k;
-              demands = none;
-              finer = λ p. none_finer J (range_solid J range) r.bound (none p);
-              steps = step_rules;
-              stop = stop_rules J lower old;
-            }
+      -- the rounds are run
+      pub ran : {new : Lent} {r : Answer WeightsFound} {report : Report} → plan_answer J kinds operands ≡ Ok report → r ≡ run_answer J report.profit old → RunLeaves J report.profit old new → FindPromises s choices kinds operands old new r
+      ran {new} {r} {report} p a m =
+          let v = walked ∙ ap verdict_of p in
+          let l = low_is good p in
+          promised (a ∙ ap (λ n. run_answer J n old) l ∙ sym (ap (λ w. answer_by w (find_found s choices kinds operands old)) (before_passes _ _ v))) (rw v (subst (λ n. RunLeaves J n old new) l m))

@@ -1,5 +1,5 @@
 -- The pieces that a loop over a written plan's nodes counts are the tree's copies.
-use Rattle.rounds.proofs.Prelude.{◌≡◌, refl, sym, ◌∙◌, ap, ap₂, Bool, true, false, List, [], ◌∷◌, ◌++◌, map, ℕ, zero, suc, ◌+◌, ◌≤◌, ◌<◌, arith, eqb, length, get_or, set, drop, length-map, List·getD-map, List·getD-append, get_or-set_same, get_or-set_other, ℕ_discrete, eq-eqb, ne_eqb, Node, Length, Width, Waste, sum, only, over, Tree, waste, piece, cut, total, preorder, kind_of, operand_of, kinds_of, operands_of, node_count, copies_of, lays, piece_here, pieces_in, sum_same}
+use Rattle.rounds.proofs.Prelude.{◌≡◌, refl, ◌∙◌, ap, ap₂, Bool, true, false, List, [], ◌∷◌, ◌++◌, map, ℕ, zero, suc, ◌+◌, ◌≤◌, arith, eqb, length, get_or, drop, length-map, List·getD-map, List·getD-append, Node, Length, Width, Waste, sum, only, over, Tree, waste, piece, cut, total, preorder, kind_of, operand_of, kinds_of, operands_of, node_count, copies_of, lays, piece_here, pieces_in, sum_same}
 use Rattle.cutting.specs.Pieces as laid
 
 -- the first summand first
@@ -55,24 +55,3 @@ pub pieces_most : (kinds operands : List ℕ) (n k : ℕ) → pieces_in kinds op
 unfolding sum
 pieces_most kinds operands zero k = omega arith
 pieces_most kinds operands (suc n) k = omega (arith, pieces_most kinds operands n k, here_most (lays (get_or kinds n 0)) (eqb (get_or operands n 0) k))
-
--- a node that is no piece, or a piece of a kind past the 64, counts for none of them
-pub none_here : (c : List ℕ) (kind operand k : ℕ) → lays kind ≡ false → get_or c k 0 ≡ get_or c k 0 + piece_here kind operand k
-none_here c kind operand k h = let z : get_or c k 0 ≡ get_or c k 0 + 0 = omega arith in
-    z ∙ sym (ap (λ t. get_or c k 0 + only t (only (eqb operand k) 1)) h)
-
-pub none_past : (c : List ℕ) (kind operand k : ℕ) → 64 ≤ operand → k < 64 → get_or c k 0 ≡ get_or c k 0 + piece_here kind operand k
-none_past c kind operand k h l = go (lays kind)
-  where
-    go : (b : Bool) → get_or c k 0 ≡ get_or c k 0 + only b (only (eqb operand k) 1)
-    go true = simp (ne_eqb operand k (λ e. omega arith)) (omega arith)
-    go false = omega arith
-
--- a piece counts for its kind
-pub one_here : (c : List ℕ) (kind operand k : ℕ) → lays kind ≡ true → operand < length c → get_or (set c operand (get_or c operand 0 + 1)) k 0 ≡ get_or c k 0 + piece_here kind operand k
-one_here c kind operand k e h = go (ℕ_discrete k operand)
-  where
-    go : Dec (k ≡ operand) → get_or (set c operand (get_or c operand 0 + 1)) k 0 ≡ get_or c k 0 + piece_here kind operand k
-    go (yes z) = rw z (get_or-set_same c operand (get_or c operand 0 + 1) 0 h ∙ sym (ap₂ (λ t u. get_or c operand 0 + only t (only u 1)) e (eq-eqb operand operand refl)))
-    go (no z) = let n : get_or c k 0 ≡ get_or c k 0 + 0 = omega arith in
-        get_or-set_other c operand k (get_or c operand 0 + 1) 0 z ∙ n ∙ sym (ap₂ (λ t u. get_or c k 0 + only t (only u 1)) e (ne_eqb operand k (λ x. z (sym x))))

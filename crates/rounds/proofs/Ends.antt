@@ -1,6 +1,6 @@
 -- The end of a round: what the loops over the kinds say of the plan's copies, and the three tests in their order.
-use Rattle.rounds.proofs.Prelude.{◌≡◌, refl, sym, ◌∙◌, ap, ap₂, subst, fun_ext, Bool, true, false, ◌||◌, not, List, map, ℕ, ◌-◌, ◌*◌, ◌≤◌, ◌<◌, dec_lt, arith, ltb-false, lt-ltb, le-ltb, eq-eqb, ne_eqb, ltb, eqb, length, get_or, take, List·getD-eq-default, length-take-le, get_or-take, range, only, any, Job, capacity, Refusal, JobRecord, WeightsAnswer, entries, job_of, weight_in, weights_answer, entries_length, entries_in, entries_past, answer_passed, capacity_answered, weights_passed, bound_held, factor, distance, adjusted, summed_squares, plan_copies, squares, gap, next_weight, within, pieces_in, Made, RoundEnded, any_same, sum_same}
-use Rattle.job.specs.declared.WeightsAnswer.TheVariants as weighed
+use Rattle.rounds.proofs.Prelude.{◌≡◌, refl, sym, ◌∙◌, ap, ap₂, subst, fun_ext, Bool, true, false, ◌||◌, not, List, map, ℕ, ◌-◌, ◌*◌, ◌≤◌, ◌<◌, dec_lt, arith, ltb-false, lt-ltb, le-ltb, eq-eqb, ne_eqb, ltb, eqb, length, get_or, take, List·getD-eq-default, length-take-le, get_or-take, range, only, any, Job, capacity, Refusal, JobRecord, entries, job_of, weight_in, weights_answer, entries_length, entries_in, entries_past, weights_passed, bound_held, factor, distance, adjusted, summed_squares, plan_copies, squares, gap, next_weight, within, pieces_in, Made, any_same, sum_same, Ok, Err, Answer, Option, None, Some, following, stops_with, first_refusal, weight_checks, passed}
+use Rattle.refusal.proofs.Results.{value_answered, refusal_answered}
 
 -- arrays whose first n entries agree
 pub entries_same : (f g : ℕ → ℕ) (n : ℕ) → ((i : ℕ) → i < n → f i ≡ g i) → entries f n ≡ entries g n
@@ -32,8 +32,10 @@ pub next_past : (J : Job) (lower k : ℕ) (weight : ℕ → ℕ) (i : ℕ) → J
 unfolding next_weight
 next_past J lower k weight i h = simp (le-ltb i J.count h)
 
-differ : {A : Type 0} → ◌≡◌ {A = Bool} true false → A
-differ e = absurd (let z : ◌≡◌ {A = ℕ} 0 1 = cc in omega arith)
+-- weights that are as many as the kinds, of a capacity that is small enough
+pub weights_good : (J : Job) (ws : List ℕ) → length ws ≡ J.count → capacity J (weight_in ws) ≤ 4095 → first_refusal (weight_checks J ws) ≡ passed
+unfolding first_refusal
+weights_good J ws h l = simp (eq-eqb (length ws) J.count h, le-ltb 4095 (capacity J (weight_in ws)) l)
 
 -- a tested number that passed its limit, or not
 by_test : {A : Type 0} (n : ℕ) → (ltb 4095 n ≡ true → A) → (n ≤ 4095 → A) → A
@@ -75,43 +77,38 @@ module _ (job : JobRecord) (lower round bound nodes : ℕ) (weights kinds operan
       → length (take job.count next) ≡ job.count
   next_room {next} f = length-take-le job.count next (omega (arith, ap length (next_are f), entries_length (next_weight (job_of job) lower round (weight_in weights)) job.count, made.in_range.kinds.1))
 
+  -- what the round's end gives
+  abbrev Turned : Option (List ℕ) → Type 0
+  Turned o = o ≡ following (stops_with (job_of job) lower round (weight_in weights)) (entries (next_weight (job_of job) lower round (weight_in weights)) job.count)
+
+  -- no weights where the run stops
+  turned_stop : stops_with (job_of job) lower round (weight_in weights) ≡ true → Turned None
+  turned_stop e = sym (ap (λ b. following b (entries (next_weight (job_of job) lower round (weight_in weights)) job.count)) e)
+
   module _ {r : Bool} (e : r ≡ not (any (λ i. ltb (get_or job.demands i 0) (get_or copies i 0)) (range 0 job.count))) where
     -- the plan keeps all demands
-    pub turned_kept : {none : List ℕ} → r ≡ true → RoundEnded (job_of job) lower round (weight_in weights) true none
-    turned_kept p = record {
-      stops = sym (ap (λ b. b || (eqb round 17 || ltb 4095 (capacity (job_of job) (next_weight (job_of job) lower round (weight_in weights))))) (within_is e ∙ p));
-      goes_on = λ z. differ z;
-    }
+    pub turned_kept : r ≡ true → Turned None
+    turned_kept p = turned_stop (ap (λ b. b || (eqb round 17 || ltb 4095 (capacity (job_of job) (next_weight (job_of job) lower round (weight_in weights))))) (within_is e ∙ p))
 
     module _ (p : r ≡ false) where
-      -- it is the last round
-      pub turned_last : {none : List ℕ} → round ≡ 17 → RoundEnded (job_of job) lower round (weight_in weights) true none
-      turned_last q = record {
-        stops = sym (ap₂ (λ b c. b || (c || ltb 4095 (capacity (job_of job) (next_weight (job_of job) lower round (weight_in weights))))) (within_is e ∙ p) (eq-eqb round 17 q));
-        goes_on = λ z. differ z;
-      }
-
       module _ (q : round ≡ 17 → ⊥) {next : List ℕ} (f : next ≡ entries (λ i. adjusted (factor round) (bound - lower) (summed_squares copies job.demands job.count) (get_or weights i 0) (get_or copies i 0) (get_or job.demands i 0)) job.count)
-          {a : WeightsAnswer} (g : a ≡ weights_answer (job_of job) (take job.count next)) where
-        tested : {b : Bool} → ltb 4095 (capacity (job_of job) (next_weight (job_of job) lower round (weight_in weights))) ≡ b
-            → b ≡ (within (job_of job) (plan_copies (job_of job) (weight_in weights)) || (eqb round 17 || ltb 4095 (capacity (job_of job) (next_weight (job_of job) lower round (weight_in weights)))))
-        tested {b} h = sym (ap₂ (λ x y. x || (y || ltb 4095 (capacity (job_of job) (next_weight (job_of job) lower round (weight_in weights))))) (within_is e ∙ p) (ne_eqb round 17 q) ∙ h)
+          {a : Answer ℕ} (g : a ≡ weights_answer (job_of job) (take job.count next)) where
+        tested : {b : Bool} → ltb 4095 (capacity (job_of job) (next_weight (job_of job) lower round (weight_in weights))) ≡ b → stops_with (job_of job) lower round (weight_in weights) ≡ b
+        tested {b} h = ap₂ (λ x y. x || (y || ltb 4095 (capacity (job_of job) (next_weight (job_of job) lower round (weight_in weights))))) (within_is e ∙ p) (ne_eqb round 17 q) ∙ h
 
         next_weights_are : weight_in (take job.count next) ≡ next_weight (job_of job) lower round (weight_in weights)
         next_weights_are = ap (λ x. weight_in (take job.count x)) (next_are f) ∙ listed _ job.count made.in_range.kinds.1 (next_past (job_of job) lower round (weight_in weights))
 
         -- the next capacity is within 4,095
-        pub turned_on : {c : ℕ} → a ≡ weighed.Capacity c → RoundEnded (job_of job) lower round (weight_in weights) false next
-        turned_on {c} h =
-            let m = (weights_passed (job_of job) (take job.count next) (capacity_answered (job_of job) (take job.count next) c (sym g ∙ h)).0).1 in
-            record {
-              stops = tested (le-ltb 4095 _ (subst (λ w. capacity (job_of job) w ≤ 4095) next_weights_are m));
-              goes_on = λ z. next_are f;
-            }
+        pub turned_on : {c : ℕ} → a ≡ Ok c → Turned (Some next)
+        turned_on h =
+            let m = (weights_passed (job_of job) (take job.count next) (value_answered _ _ (sym g ∙ h)).0).1 in
+            sym (ap₂ following (tested (le-ltb 4095 _ (subst (λ w. capacity (job_of job) w ≤ 4095) next_weights_are m))) (sym (next_are f)))
 
         -- it passes 4,095
-        pub turned_full : {x : Refusal} {none : List ℕ} → a ≡ weighed.Refused x → RoundEnded (job_of job) lower round (weight_in weights) true none
-        turned_full {x} h = record {
-          stops = tested (by_test _ (λ t. t) (λ m. (let k = answer_passed (job_of job) (take job.count next) (next_room f) (ap (capacity (job_of job)) (sym next_weights_are)) m in absurd (let z : ◌≡◌ {A = ℕ} 0 1 = cc in omega arith))));
-          goes_on = λ z. differ z;
-        }
+        pub turned_full : {x : Refusal} → a ≡ Err x → Turned None
+        turned_full h = turned_stop (tested (by_test _ (λ t. t) (λ m. (
+            let k = weights_good (job_of job) (take job.count next) (next_room f) (subst (λ w. capacity (job_of job) w ≤ 4095) (sym next_weights_are) m) in
+            let v = refusal_answered _ _ (sym g ∙ h) in
+            absurd (let z : ◌≡◌ {A = ℕ} 0 1 = cc in omega arith)
+            ))))

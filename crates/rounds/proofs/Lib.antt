@@ -1,7 +1,6 @@
 mod Prelude
 pub mod Count
 pub mod Ends
-pub mod Best
 pub mod Run
 pub mod Rules
 pub mod Calls

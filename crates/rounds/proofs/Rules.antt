@@ -1,5 +1,5 @@
 -- The definitions have the scope's rules of the stop: the test of the demands, the last round.
-use Rattle.rounds.proofs.Prelude.{◌≡◌, refl, ◌∙◌, ap, Bool, true, false, ◌||◌, not, ℕ, zero, suc, ◌+◌, ◌*◌, ◌≤◌, ◌<◌, ℕ_discrete, arith, ltb-true, ltb-false, le-ltb, eq-eqb, not-true, not-false, ltb, eqb, range, sum, any, Job, capacity, Checked, Passed, Refused, distance, pick_number, plan_copies, squares, weight_at, within, Lent, round_verdict, refuses, last_here, last_from, last_round, rounds_by, rounds_run, StopRules, any_none, any_more, none_passes}
+use Rattle.rounds.proofs.Prelude.{◌≡◌, refl, ◌∙◌, ap, Bool, true, false, ◌||◌, not, ℕ, zero, suc, ◌+◌, ◌*◌, ◌≤◌, ◌<◌, ℕ_discrete, arith, ltb-true, ltb-false, le-ltb, eq-eqb, not-true, not-false, ltb, eqb, range, sum, any, Job, capacity, distance, pick_number, plan_copies, squares, weight_at, within, Lent, round_verdict, refuses, last_here, last_from, last_round, rounds_by, rounds_run, StopRules, any_none, any_more, none_passes, Ok, Err, Checked}
 
 module _ (J : Job) (copies : ℕ → ℕ) where
   -- the test of the demands
@@ -102,8 +102,8 @@ module _ (J : Job) (lower : ℕ) (m : Lent) where
   rounds_most = go (round_verdict J (weight_at J lower (last_round J lower m)) m)
     where
       go : (v : Checked) → rounds_by v (last_round J lower m) ≤ 18
-      go Passed = omega (arith, last_most)
-      go (Refused r) = omega (arith, last_most)
+      go (Ok _) = omega (arith, last_most)
+      go (Err r) = omega (arith, last_most)
 
   -- the rules of the stop
   pub stop_rules : StopRules J lower m

@@ -1,8 +1,8 @@
 -- The run of the rounds: what is known before round k, and what a written or a refused round makes of it.
-use Rattle.rounds.proofs.Prelude.{◌≡◌, refl, sym, ◌∙◌, ap, ap₂, subst, fun_ext, Bool, true, false, ◌||◌, List, [], ◌∷◌, map, ℕ, zero, suc, ◌+◌, ◌-◌, ◌*◌, ◌≤◌, ◌<◌, arith, ltb-false, eqb-false, le-ltb, eq-eqb, ltb, eqb, eqb·suc-zero, length, take, replicate, length-take-le, range, sum, only, over, kinds_of, operands_of, node_count, Job, widened, counted, capacity, bound_of, bound_plan, next, first_refusal, Refusal, Checked, Passed, Refused, Choices, JobRecord, job_checks, entries, record_of, job_of, block_job, weight_in, weight_checks, entries_length, entries_none, read_in_range, both_accepted, Leaves, memory_checks, storage_checks, bound_report, list_after, accept_verdict, BoundLeaves, WriteReport, WriteAnswer, nodes_check, nodes_verdict, reported, write_answer_by, block_plan, write_verdict, write_answer, array_after, written_fits, WeightsFound, pick_number, plan_copies, next_weight, weight_at, within, stops_after, Lent, round_verdict, refuses, last_here, last_from, last_round, rounds_by, rounds_run, bound_at, best_round, answer_of, found, find_answer_by, run_answer, RoundLeaves, RoundsLeave, RunLeaves, pieces_in, Made, RoundEnded, better, ended}
-use Rattle.promises.specs.declared.WriteAnswer.TheVariants as write
+use Rattle.rounds.proofs.Prelude.{◌≡◌, refl, sym, ◌∙◌, ap, ap₂, subst, fun_ext, Bool, true, false, ◌||◌, List, [], ◌∷◌, map, ℕ, zero, suc, ◌+◌, ◌-◌, ◌*◌, ◌≤◌, ◌<◌, arith, ltb-false, eqb-false, ltb, eqb, eqb·suc-zero, length, take, replicate, length-take-le, range, sum, only, over, kinds_of, operands_of, node_count, Job, widened, counted, capacity, bound_of, bound_plan, next, first_refusal, Refusal, Choices, JobRecord, job_checks, entries, record_of, job_of, block_job, weight_in, entries_length, entries_none, read_in_range, both_accepted, Leaves, memory_checks, storage_checks, bound_report, list_after, accept_verdict, BoundLeaves, WriteReport, nodes_check, nodes_verdict, reported, block_plan, write_verdict, write_answer, array_after, written_fits, WeightsFound, pick_number, plan_copies, next_weight, weight_at, within, stops_after, Lent, round_verdict, refuses, last_here, last_from, last_round, rounds_by, rounds_run, bound_at, best_round, found, run_answer, RoundLeaves, RoundsLeave, RunLeaves, pieces_in, Made, better, Ok, Err, passed, Checked, Answer, answer_by, Option, None, Some, following, stops_with, write_report}
+use Rattle.refusal.proofs.Results.{value_answered, refusal_answered}
 use Rattle.rounds.proofs.Count.{pieces_tree}
-use Rattle.rounds.proofs.Ends.{listed, listed_all, next_past}
+use Rattle.rounds.proofs.Ends.{listed, listed_all, next_past, weights_good}
 
 one_more : (k : ℕ) → k + 1 ≡ suc k
 one_more k = omega arith
@@ -36,11 +36,6 @@ verdict_same J weight a b h = ap₂ next
     ∙ ap (λ n. first_refusal (storage_checks (widened J) (capacity J weight) (length a.memory.lengths) (length a.memory.widths) n)) h.table)
     (ap₂ (λ m n. first_refusal (nodes_check (bound_plan J weight) m n ∷ [])) h.kinds h.operands)
 
--- weights that are as many as the kinds, of a capacity that is small enough
-pub weights_good : (J : Job) (ws : List ℕ) → length ws ≡ J.count → capacity J (weight_in ws) ≤ 4095 → first_refusal (weight_checks J ws) ≡ Passed
-unfolding first_refusal
-weights_good J ws h l = simp (eq-eqb (length ws) J.count h, le-ltb 4095 (capacity J (weight_in ws)) l)
-
 -- round 0 passed where round k passed
 first_passed : (P : ℕ → Type 0) (k : ℕ) → P k → (0 < k → P 0) → P 0
 first_passed P zero p h = p
@@ -49,15 +44,6 @@ first_passed P (suc k) p h = h (omega arith)
 -- what the writing call reports of a round
 abbrev round_report : Job → (ℕ → ℕ) → WriteReport
 round_report J weight = reported (bound_report (widened J) weight (capacity J weight)) (node_count (bound_plan J weight))
-
--- what an answer of the writing call says of its verdict
-refused_by : (v : Checked) (b : WriteReport) {x : Refusal} → write.Refused x ≡ write_answer_by v b → v ≡ Refused x
-refused_by Passed b e = absurd (let z : ◌≡◌ {A = ℕ} 0 1 = cc in omega arith)
-refused_by (Refused y) b e = cc
-
-written_by : (v : Checked) (b : WriteReport) {report : WriteReport} → write.Written report ≡ write_answer_by v b → (v ≡ Passed) × (report ≡ b)
-written_by Passed b e = (refl, cc)
-written_by (Refused x) b e = absurd (let z : ◌≡◌ {A = ℕ} 0 1 = cc in omega arith)
 
 module _ (J : Job) (lower : ℕ) where
   pub weight_past : (k i : ℕ) → J.count ≤ i → weight_at J lower k i ≡ 0
@@ -89,14 +75,17 @@ module _ (J : Job) (lower : ℕ) where
   unfolding found best_round
   found_first a = refl
 
+  -- the answer of n rounds of which round j gave the least bound
+  abbrev found_at : ℕ → ℕ → WeightsFound
+  found_at j n = record { bound = bound_at J lower j; rounds = n; weights = entries (weight_at J lower j) J.count }
+
   found_more : (k : ℕ) → better (ltb (bound_at J lower (suc k)) (found J lower (suc k)).bound) (bound_at J lower (suc k)) (entries (weight_at J lower (suc k)) J.count) (suc k + 1) (found J lower (suc k)) ≡ found J lower (suc (suc k))
   unfolding found best_round
   found_more k = go (ltb (bound_at J lower (suc k)) (bound_at J lower (best_round J lower k)))
     where
-      go : (b : Bool) → better b (bound_at J lower (suc k)) (entries (weight_at J lower (suc k)) J.count) (suc k + 1) (found J lower (suc k))
-          ≡ answer_of (bound_at J lower (pick_number b (suc k) (best_round J lower k))) (suc (suc k)) (entries (weight_at J lower (pick_number b (suc k) (best_round J lower k))) J.count)
-      go true = ap (λ n. answer_of (bound_at J lower (suc k)) n (entries (weight_at J lower (suc k)) J.count)) (one_more (suc k))
-      go false = ap (λ n. answer_of (bound_at J lower (best_round J lower k)) n (entries (weight_at J lower (best_round J lower k)) J.count)) (one_more (suc k))
+      go : (b : Bool) → better b (bound_at J lower (suc k)) (entries (weight_at J lower (suc k)) J.count) (suc k + 1) (found J lower (suc k)) ≡ found_at (pick_number b (suc k) (best_round J lower k)) (suc (suc k))
+      go true = ap (found_at (suc k)) (one_more (suc k))
+      go false = ap (found_at (best_round J lower k)) (one_more (suc k))
 
   -- the answer with round k
   found_next : (k : ℕ) {a b : WeightsFound} {bound : ℕ} {weights : List ℕ} → a ≡ found J lower k → bound ≡ bound_at J lower k → weights ≡ entries (weight_at J lower k) J.count
@@ -122,40 +111,50 @@ module _ (J : Job) (lower : ℕ) where
     run_are : (k : ℕ) (v : Checked) → last_round J lower m ≡ k → round_verdict J (weight_at J lower k) m ≡ v → rounds_run J lower m ≡ rounds_by v k
     run_are k v e p = ap (λ j. rounds_by (round_verdict J (weight_at J lower j) m) j) e ∙ ap (λ x. rounds_by x k) p
 
-    -- the answer where round k is refused
-    refused_answers : (k : ℕ) {a b : WeightsFound} {x : Refusal} → (0 < k → round_verdict J (weight_at J lower 0) m ≡ Passed) → a ≡ found J lower k → last_round J lower m ≡ k
-        → round_verdict J (weight_at J lower k) m ≡ Refused x → b ≡ ended (eqb k 0) a (write.Refused x) → b ≡ run_answer J lower m
-    refused_answers zero {a} {b} {x} h p l v e = e ∙ sym (ap (λ v. find_answer_by v (found J lower (rounds_run J lower m))) v)
-    refused_answers (suc k) {a} {b} {x} h p l v e =
-        e ∙ ap (λ t. ended t a (write.Refused x)) (eqb·suc-zero k) ∙ p ∙ sym (ap₂ (λ v n. find_answer_by v (found J lower n)) (h (omega arith)) (run_are (suc k) (Refused x) l v))
+    -- the answer where round 0 is refused
+    refused_first : (k : ℕ) {x : Refusal} → k ≡ 0 → round_verdict J (weight_at J lower k) m ≡ Err x → Err x ≡ run_answer J lower m
+    refused_first k e v = sym (ap (λ w. answer_by w (found J lower (rounds_run J lower m))) (ap (λ i. round_verdict J (weight_at J lower i) m) (sym e) ∙ v))
+
+    -- and where a later round k is refused
+    refused_later : (k : ℕ) {a : WeightsFound} {x : Refusal} → round_verdict J (weight_at J lower 0) m ≡ passed → a ≡ found J lower k → last_round J lower m ≡ k
+        → round_verdict J (weight_at J lower k) m ≡ Err x → Ok a ≡ run_answer J lower m
+    refused_later k {a} {x} h p l v = ap Ok p ∙ sym (ap₂ (λ w n. answer_by w (found J lower n)) h (run_are k (Err x) l v))
 
     -- the answer where the run stops after round k
-    stopped_answers : (k : ℕ) {b : WeightsFound} → (0 < k → round_verdict J (weight_at J lower 0) m ≡ Passed) → last_round J lower m ≡ k
-        → round_verdict J (weight_at J lower k) m ≡ Passed → b ≡ found J lower (k + 1) → b ≡ run_answer J lower m
-    stopped_answers zero h l v e = e ∙ sym (ap₂ (λ v n. find_answer_by v (found J lower n)) v (run_are 0 Passed l v))
-    stopped_answers (suc k) h l v e = e ∙ sym (ap₂ (λ v n. find_answer_by v (found J lower n)) (h (omega arith)) (run_are (suc k) Passed l v))
+    stopped_answers : (k : ℕ) {b : WeightsFound} → round_verdict J (weight_at J lower 0) m ≡ passed → last_round J lower m ≡ k
+        → round_verdict J (weight_at J lower k) m ≡ passed → b ≡ found J lower (k + 1) → Ok b ≡ run_answer J lower m
+    stopped_answers k h l v e = ap Ok e ∙ sym (ap₂ (λ w n. answer_by w (found J lower n)) h (run_are k passed l v))
+
+-- what follows a round, by whether the run stops
+none_follows : (b : Bool) (w : List ℕ) {o : Option (List ℕ)} → o ≡ following b w → o ≡ None → b ≡ true
+none_follows true w e f = refl
+none_follows false w e f = absurd (let z : ◌≡◌ {A = ℕ} 0 1 = cc in omega arith)
+
+some_follows : (b : Bool) (w : List ℕ) {x : List ℕ} {o : Option (List ℕ)} → o ≡ following b w → o ≡ Some x → (b ≡ false) × (x ≡ w)
+some_follows true w e f = absurd (let z : ◌≡◌ {A = ℕ} 0 1 = cc in omega arith)
+some_follows false w e f = (refl, cc)
 
 -- what is known before round k
 pub record State (s : List ℕ) (choices : Choices) (lower : ℕ) (m : Lent) (k : ℕ) (present : Lent) (weights : List ℕ) (a : WeightsFound) : Type 0 where
   pub small : k < 18
   pub weights_are : weights ≡ entries (weight_at (block_job s choices) lower k) (block_job s choices).count
   pub capacity_most : capacity (block_job s choices) (weight_at (block_job s choices) lower k) ≤ 4095
-  pub begun : 0 < k → round_verdict (block_job s choices) (weight_at (block_job s choices) lower 0) m ≡ Passed
+  pub begun : 0 < k → round_verdict (block_job s choices) (weight_at (block_job s choices) lower 0) m ≡ passed
   pub found_is : a ≡ found (block_job s choices) lower k
   pub decides : last_round (block_job s choices) lower m ≡ last_from (block_job s choices) lower m (17 - k) k
   pub left : RoundsLeave (block_job s choices) lower k m present
   pub same : Same m present
 
-module _ (s : List ℕ) (choices : Choices) (good : first_refusal (job_checks s choices) ≡ Passed) (lower : ℕ) (m : Lent) where
+module _ (s : List ℕ) (choices : Choices) (good : first_refusal (job_checks s choices) ≡ passed) (lower : ℕ) (m : Lent) where
   -- before round 0
-  pub starts : {a : WeightsFound} → a ≡ answer_of 0 0 (replicate 64 0) → State s choices lower m 0 m (replicate 64 0) a
+  pub starts : State s choices lower m 0 m (replicate 64 0) (record { bound = 0; rounds = 0; weights = replicate 64 0 })
   unfolding found
-  starts e = record {
+  starts = record {
     small = omega arith;
     weights_are = no_weights (block_job s choices) lower;
     capacity_most = no_capacity (block_job s choices) lower;
     begun = λ h. absurd (omega arith);
-    found_is = e;
+    found_is = refl;
     decides = refl;
     left = refl;
     same = record { lengths = refl; widths = refl; table = refl; kinds = refl; operands = refl };
@@ -172,7 +171,7 @@ module _ (s : List ℕ) (choices : Choices) (good : first_refusal (job_checks s 
     weight_is : weight_in (take n weights) ≡ weight_at (block_job s choices) lower k
     weight_is = ap₂ (λ x y. weight_in (take x y)) size st.weights_are ∙ listed (weight_at (block_job s choices) lower k) (block_job s choices).count (read_in_range s choices good).kinds.1 (weight_past (block_job s choices) lower k)
 
-    accepted : accept_verdict s choices (take n weights) ≡ Passed
+    accepted : accept_verdict s choices (take n weights) ≡ passed
     accepted = both_accepted s choices (take n weights) good
         (weights_good (block_job s choices) (take n weights) (weights_listed ∙ size) (subst (λ w. capacity (block_job s choices) w ≤ 4095) (sym weight_is) st.capacity_most))
 
@@ -191,7 +190,7 @@ module _ (s : List ℕ) (choices : Choices) (good : first_refusal (job_checks s 
         → new.operands ≡ array_after s choices (take n weights) old.memory old.kinds old.operands (operands_of (block_plan s choices (take n weights))) old.operands
         → RoundLeaves (block_job s choices) (weight_at (block_job s choices) lower k) old new
     leaves {new} l p q = record {
-      memory = subst (λ w. Leaves Passed (widened (block_job s choices)) w (capacity (block_job s choices) w) old.memory new.memory) weight_is
+      memory = subst (λ w. Leaves passed (widened (block_job s choices)) w (capacity (block_job s choices) w) old.memory new.memory) weight_is
           (subst (λ v. Leaves v (widened (block_job s choices)) (weight_in (take n weights)) (capacity (block_job s choices) (weight_in (take n weights))) old.memory new.memory) accepted l);
       kinds = p ∙ ap₂ (λ v w. list_after v (kinds_of (bound_plan (block_job s choices) w)) old.kinds) verdict_is weight_is;
       operands = q ∙ ap₂ (λ v w. list_after v (operands_of (bound_plan (block_job s choices) w)) old.operands) verdict_is weight_is;
@@ -201,15 +200,15 @@ module _ (s : List ℕ) (choices : Choices) (good : first_refusal (job_checks s 
     weights_all : weight_in weights ≡ weight_at (block_job s choices) lower k
     weights_all = ap weight_in st.weights_are ∙ listed_all (weight_at (block_job s choices) lower k) (block_job s choices).count (read_in_range s choices good).kinds.1 (weight_past (block_job s choices) lower k)
 
-    module _ {r : WriteAnswer} (e : r ≡ write_answer s choices (take n weights) old.memory old.kinds old.operands) where
+    module _ {r : Answer WriteReport} (e : r ≡ write_answer s choices (take n weights) old.memory old.kinds old.operands) where
       -- a refused round
-      refused_here : {x : Refusal} → r ≡ write.Refused x → round_verdict (block_job s choices) (weight_at (block_job s choices) lower k) m ≡ Refused x
-      refused_here f = sym (verdict_same (block_job s choices) (weight_at (block_job s choices) lower k) m old st.same) ∙ sym verdict_is ∙ refused_by _ _ (sym f ∙ e)
+      refused_here : {x : Refusal} → r ≡ Err x → round_verdict (block_job s choices) (weight_at (block_job s choices) lower k) m ≡ Err x
+      refused_here f = sym (verdict_same (block_job s choices) (weight_at (block_job s choices) lower k) m old st.same) ∙ sym verdict_is ∙ refusal_answered (write_verdict s choices (take n weights) old.memory old.kinds old.operands) (write_report s choices (take n weights)) (sym e ∙ f)
 
       -- a written round
-      written_here : {report : WriteReport} → r ≡ write.Written report → (round_verdict (block_job s choices) (weight_at (block_job s choices) lower k) m ≡ Passed) × (report ≡ round_report (block_job s choices) (weight_at (block_job s choices) lower k))
+      written_here : {report : WriteReport} → r ≡ Ok report → (round_verdict (block_job s choices) (weight_at (block_job s choices) lower k) m ≡ passed) × (report ≡ round_report (block_job s choices) (weight_at (block_job s choices) lower k))
       written_here f =
-          let w = written_by _ _ (sym f ∙ e) in
+          let w = value_answered (write_verdict s choices (take n weights) old.memory old.kinds old.operands) (write_report s choices (take n weights)) (sym e ∙ f) in
           (sym (verdict_same (block_job s choices) (weight_at (block_job s choices) lower k) m old st.same) ∙ sym verdict_is ∙ w.0, w.1 ∙ ap (round_report (block_job s choices)) weight_is)
 
       module _ {new : Lent} (left : RoundLeaves (block_job s choices) (weight_at (block_job s choices) lower k) old new) where
@@ -217,16 +216,20 @@ module _ (s : List ℕ) (choices : Choices) (good : first_refusal (job_checks s 
         leave_all : last_round (block_job s choices) lower m ≡ k → RunLeaves (block_job s choices) lower m new
         leave_all l = subst (λ j. RoundsLeave (block_job s choices) lower (suc j) m new) (sym l) (old, st.left, left)
 
-        -- the run ends with a refused round
-        pub ends_refused : {x : Refusal} {b : WeightsFound} → r ≡ write.Refused x → b ≡ ended (eqb k 0) a r
-            → (b ≡ run_answer (block_job s choices) lower m) × RunLeaves (block_job s choices) lower m new
+        -- the run ends with a refused round, the first one or a later one
+        refused_last : {x : Refusal} → r ≡ Err x → last_round (block_job s choices) lower m ≡ k
         unfolding last_here
-        ends_refused f g =
-            let v = refused_here f in
-            let l = st.decides ∙ last_stops (block_job s choices) lower m (17 - k) k (ap (λ v. refuses v || stops_after (block_job s choices) lower k) v) in
-            (refused_answers (block_job s choices) lower m k st.begun st.found_is l v (g ∙ ap (ended (eqb k 0) a) f), leave_all l)
+        refused_last f = st.decides ∙ last_stops (block_job s choices) lower m (17 - k) k (ap (λ v. refuses v || stops_after (block_job s choices) lower k) (refused_here f))
 
-        module _ {report : WriteReport} (f : r ≡ write.Written report) where
+        pub ends_first : {x : Refusal} → r ≡ Err x → k ≡ 0 → (Err x ≡ run_answer (block_job s choices) lower m) × RunLeaves (block_job s choices) lower m new
+        ends_first f z = (refused_first (block_job s choices) lower m k z (refused_here f), leave_all (refused_last f))
+
+        pub ends_later : {x : Refusal} → r ≡ Err x → (k ≡ 0 → ⊥) → (Ok a ≡ run_answer (block_job s choices) lower m) × RunLeaves (block_job s choices) lower m new
+        ends_later f z =
+            let l = refused_last f in
+            (refused_later (block_job s choices) lower m k (st.begun (omega (arith, z))) st.found_is l (refused_here f), leave_all l)
+
+        module _ {report : WriteReport} (f : r ≡ Ok report) where
           -- what the round's end asks
           pub made : {job : JobRecord} → job ≡ record_of s choices → ((weight : ℕ → ℕ) → lower ≤ bound_of (block_job s choices) weight) → Same m new
               → Made (job_of job) lower k report.bound report.nodes (weight_in weights) new.kinds new.operands
@@ -234,7 +237,7 @@ module _ (s : List ℕ) (choices : Choices) (good : first_refusal (job_checks s 
               (subst (λ w. Made (block_job s choices) lower k report.bound report.nodes w new.kinds new.operands) (sym weights_all) (
               let w = written_here f in
               let fits = written_fits s choices (take n weights) old.memory old.kinds old.operands e f in
-              let v : round_verdict (block_job s choices) (weight_at (block_job s choices) lower k) old ≡ Passed = verdict_same (block_job s choices) (weight_at (block_job s choices) lower k) m old st.same ∙ w.0 in
+              let v : round_verdict (block_job s choices) (weight_at (block_job s choices) lower k) old ≡ passed = verdict_same (block_job s choices) (weight_at (block_job s choices) lower k) m old st.same ∙ w.0 in
               let t = bound_plan (block_job s choices) (weight_at (block_job s choices) lower k) in
               let b = ap (λ (x : WriteReport). x.bound) w.1 in
               record {
@@ -249,39 +252,38 @@ module _ (s : List ℕ) (choices : Choices) (good : first_refusal (job_checks s 
               ))
 
           module _ {job : JobRecord} (j : job ≡ record_of s choices) {b : WeightsFound} (g : b ≡ better (eqb k 0 || ltb report.bound a.bound) report.bound weights (k + 1) a)
-              {over : Bool} {following : List ℕ} (t : RoundEnded (job_of job) lower k (weight_in weights) over following) where
-            turned : RoundEnded (block_job s choices) lower k (weight_at (block_job s choices) lower k) over following
-            turned = subst (λ w. RoundEnded (block_job s choices) lower k w over following) weights_all (subst (λ x. RoundEnded (job_of x) lower k (weight_in weights) over following) j t)
+              {o : Option (List ℕ)} (t : o ≡ following (stops_with (job_of job) lower k (weight_in weights)) (entries (next_weight (job_of job) lower k (weight_in weights)) job.count)) where
+            turned : o ≡ following (stops_after (block_job s choices) lower k) (entries (weight_at (block_job s choices) lower (suc k)) (block_job s choices).count)
+            turned = t ∙ ap₂ (λ (x : JobRecord) w. following (stops_with (job_of x) lower k w) (entries (next_weight (job_of x) lower k w) x.count)) j weights_all ∙ ap (λ w. following (within (block_job s choices) (plan_copies (block_job s choices) (weight_at (block_job s choices) lower k)) || (eqb k 17 || ltb 4095 (capacity (block_job s choices) w))) (entries w (block_job s choices).count)) (weight_next (block_job s choices) lower k)
 
             found_then : b ≡ found (block_job s choices) lower (k + 1)
             found_then = found_next (block_job s choices) lower k st.found_is (ap (λ (x : WriteReport). x.bound) (written_here f).1) st.weights_are g
 
-            stops_is : over ≡ stops_after (block_job s choices) lower k
-            stops_is = turned.stops ∙ ap (λ w. within (block_job s choices) (plan_copies (block_job s choices) (weight_at (block_job s choices) lower k)) || (eqb k 17 || ltb 4095 (capacity (block_job s choices) w))) (weight_next (block_job s choices) lower k)
-
             -- the run stops after this round
-            pub ends_over : over ≡ true → (b ≡ run_answer (block_job s choices) lower m) × RunLeaves (block_job s choices) lower m new
+            pub ends_over : o ≡ None → (Ok b ≡ run_answer (block_job s choices) lower m) × RunLeaves (block_job s choices) lower m new
             unfolding last_here
             ends_over h =
                 let v = (written_here f).0 in
-                let l = st.decides ∙ last_stops (block_job s choices) lower m (17 - k) k (or_right (refuses (round_verdict (block_job s choices) (weight_at (block_job s choices) lower k) m)) (sym stops_is ∙ h)) in
-                (stopped_answers (block_job s choices) lower m k st.begun l v found_then, leave_all l)
+                let z = first_passed (λ i. round_verdict (block_job s choices) (weight_at (block_job s choices) lower i) m ≡ passed) k v st.begun in
+                let l = st.decides ∙ last_stops (block_job s choices) lower m (17 - k) k (or_right (refuses (round_verdict (block_job s choices) (weight_at (block_job s choices) lower k) m)) (none_follows (stops_after (block_job s choices) lower k) (entries (weight_at (block_job s choices) lower (suc k)) (block_job s choices).count) turned h)) in
+                (stopped_answers (block_job s choices) lower m k z l v found_then, leave_all l)
 
             -- or goes on
-            pub goes_on : over ≡ false → Same m new → State s choices lower m (k + 1) new following b
+            pub goes_on : {next : List ℕ} → o ≡ Some next → Same m new → State s choices lower m (k + 1) new next b
             unfolding last_here
             goes_on h same =
                 let v = (written_here f).0 in
+                let y = some_follows (stops_after (block_job s choices) lower k) (entries (weight_at (block_job s choices) lower (suc k)) (block_job s choices).count) turned h in
                 let full = ltb 4095 (capacity (block_job s choices) (weight_at (block_job s choices) lower (suc k))) in
-                let q = neither (within (block_job s choices) (plan_copies (block_job s choices) (weight_at (block_job s choices) lower k))) (eqb k 17 || full) (sym stops_is ∙ h) in
+                let q = neither (within (block_job s choices) (plan_copies (block_job s choices) (weight_at (block_job s choices) lower k))) (eqb k 17 || full) y.0 in
                 let p = neither (eqb k 17) full q.1 in
                 let l : k < 17 = omega (arith, st.small, eqb-false k 17 p.0) in
-                let here : last_here (block_job s choices) lower m k ≡ false = ap₂ (λ v b. refuses v || b) v (sym stops_is ∙ h) in
+                let here : last_here (block_job s choices) lower m k ≡ false = ap₂ (λ v b. refuses v || b) v y.0 in
                 record {
                   small = omega arith;
-                  weights_are = turned.goes_on h ∙ ap (λ w. entries w (block_job s choices).count) (weight_next (block_job s choices) lower k ∙ ap (weight_at (block_job s choices) lower) (sym (one_more k)));
+                  weights_are = y.1 ∙ ap (λ i. entries (weight_at (block_job s choices) lower i) (block_job s choices).count) (sym (one_more k));
                   capacity_most = subst (λ i. capacity (block_job s choices) (weight_at (block_job s choices) lower i) ≤ 4095) (sym (one_more k)) (ltb-false 4095 (capacity (block_job s choices) (weight_at (block_job s choices) lower (suc k))) p.1);
-                  begun = λ z. first_passed (λ i. round_verdict (block_job s choices) (weight_at (block_job s choices) lower i) m ≡ Passed) k v st.begun;
+                  begun = λ z. first_passed (λ i. round_verdict (block_job s choices) (weight_at (block_job s choices) lower i) m ≡ passed) k v st.begun;
                   found_is = found_then;
                   decides = st.decides ∙ last_goes (block_job s choices) lower m k l here;
                   left = subst (λ i. RoundsLeave (block_job s choices) lower i m new) (sym (one_more k)) (old, st.left, left);

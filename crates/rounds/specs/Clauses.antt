@@ -1,15 +1,11 @@
 -- What only the inner contracts of the weight rounds cite: what the loop over nodes counts, what the end of a round asks and
--- says, and the best answer with one round more.
-use Rattle.std.specs.Prelude.{◌≡◌, Bool, true, false, ◌||◌, List, ℕ, ◌≤◌, ◌<◌, ltb, eqb, length, get_or}
+-- gives, and the best answer with one round more.
+use Rattle.std.specs.Prelude.{◌≡◌, Bool, true, false, ◌||◌, List, ℕ, ◌≤◌, ◌<◌, ltb, eqb, length, get_or, Option, None, Some}
 use Rattle.cutting.specs.Limits.{most_nodes, most_kinds, most_capacity}
 use Rattle.cutting.specs.Lists.{sum, only}
 use Rattle.cutting.specs.Job.{Job, InRange, capacity, bound_of}
-use Rattle.promises.specs.declared.Checked.TheVariants.{Refused}
-use Rattle.job.specs.Block.{entries}
-use Rattle.promises.specs.declared.WriteAnswer.{WriteAnswer}
-use Rattle.promises.specs.declared.WriteAnswer.TheVariants as write
 use Rattle.weight_steps.specs.Step.{most_rounds, final_round}
-use Rattle.rounds.specs.Rounds.{plan_copies, next_weight, within, answer_of, refused_answer}
+use Rattle.rounds.specs.Rounds.{plan_copies, next_weight, within}
 use Rattle.promises.specs.declared.WeightsFound.{WeightsFound}
 
 -- whether a node's kind is that of a piece, upright or turned
@@ -33,18 +29,16 @@ pub record Made (J : Job) (lower round bound nodes : ℕ) (weight : ℕ → ℕ)
   pub nodes_most : (nodes ≤ most_nodes) × (nodes ≤ length kinds) × (nodes ≤ length operands)
   pub copies : (k : ℕ) → k < most_kinds → pieces_in kinds operands nodes k ≡ plan_copies J weight k
 
--- what it says of the next round: whether the run stops before it, and else its weights
-pub record RoundEnded (J : Job) (lower round : ℕ) (weight : ℕ → ℕ) (over : Bool) (weights : List ℕ) : Type 0 where
-  pub stops : over ≡ (within J (plan_copies J weight) || (eqb round final_round || ltb most_capacity (capacity J (next_weight J lower round weight))))
-  pub goes_on : over ≡ false → weights ≡ entries (next_weight J lower round weight) J.count
+-- whether the run stops after a round with these weights
+abbrev pub stops_with : Job → ℕ → ℕ → (ℕ → ℕ) → Bool
+stops_with J lower round weight = within J (plan_copies J weight) || (eqb round final_round || ltb most_capacity (capacity J (next_weight J lower round weight)))
+
+-- the weights of the next round, by whether the run stops
+abbrev pub following : Bool → List ℕ → Option (List ℕ)
+following true weights = None
+following false weights = Some weights
 
 -- the best answer with one round more, by whether that round's bound is the best
 abbrev pub better : Bool → ℕ → List ℕ → ℕ → WeightsFound → WeightsFound
-better true bound weights rounds a = answer_of bound rounds weights
-better false bound weights rounds a = answer_of a.bound rounds a.weights
-
--- the answer where a round is refused, by whether it is round 0: the refusal, later what the earlier rounds gave
-abbrev pub ended : Bool → WeightsFound → WriteAnswer → WeightsFound
-ended true a (write.Refused r) = refused_answer (Refused r)
-ended true a (write.Written b) = a
-ended false a w = a
+better true bound weights rounds a = record { bound = bound; rounds = rounds; weights = weights }
+better false bound weights rounds a = record { bound = a.bound; rounds = rounds; weights = a.weights }

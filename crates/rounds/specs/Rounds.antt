@@ -1,24 +1,25 @@
 -- The weight rounds: the weights of each round, when the run stops, what the call answers, and what it leaves in lent memory. Round k is a
 -- function of the job, the lower figure and k; lent memory decides only whether a round is refused.
 -- docs/SCOPE.md: Weights found.
-use Rattle.std.specs.Prelude.{◌≡◌, Bool, true, false, ◌||◌, List, ◌∷◌, ℕ, zero, suc, ◌+◌, ◌-◌, ◌≤◌, ◌<◌, ltb, eqb, replicate, take}
+use Rattle.std.specs.Prelude.{◌≡◌, Bool, true, false, ◌||◌, List, ℕ, zero, suc, ◌+◌, ◌-◌, ◌≤◌, ◌<◌, ltb, eqb, replicate, take}
+use Rattle.std.specs.Result.{ForOk}
 use Rattle.cutting.specs.Limits.{most_kinds, most_capacity}
 use Rattle.cutting.specs.Lists.{only}
 use Rattle.cutting.specs.Tree.{IdleFree}
 use Rattle.cutting.specs.Preorder.{kinds_of, operands_of}
-use Rattle.cutting.specs.Job.{Job, KeepsDemands, copies_of, widened, capacity, bound_of, bound_plan}
+use Rattle.cutting.specs.Job.{Job, KeepsDemands, profit, copies_of, widened, capacity, bound_of, bound_plan}
 use Rattle.cutting.specs.Promises.{NoneAbove, NoneFiner}
-use Rattle.refusal.specs.Refusals.{Outcome, next, first_refusal, by_check, outcome_by}
-use Rattle.promises.specs.declared.Checked.{Checked}
-use Rattle.promises.specs.declared.Checked.TheVariants.{Passed, Refused}
+use Rattle.refusal.specs.Refusals.{Answer, Checked, passed, Outcome, next, first_refusal, by_check, answer_by, verdict_of, outcome_by, outcome_of}
 use Rattle.promises.specs.declared.Choices.{Choices}
 use Rattle.job.specs.Block.{entries}
 use Rattle.job.specs.Weights.{block_job, weight_in, Accepted}
 use Rattle.plan.specs.Calls.{arrays_answer}
+use Rattle.plan.specs.Trees.{tree_in}
 use Rattle.bound.specs.Bound.{Memory, lent, Leaves, memory_checks, list_after}
 use Rattle.writer.specs.Write.{nodes_verdict}
 use Rattle.weight_steps.specs.Step.{most_rounds, final_round, factor, pick_number, adjusted, StepRules}
 use Rattle.promises.specs.declared.WeightsFound.{WeightsFound}
+pub use Rattle.promises.specs.Rounds.{found_values}
 unfoldable pub use Rattle.promises.specs.Rounds.{squares, within}
 
 -- the copies of kind i in the plan behind the bound
@@ -90,34 +91,22 @@ unfoldable pub best_round : Job → ℕ → ℕ → ℕ
 best_round J lower zero = 0
 best_round J lower (suc n) = pick_number (ltb (bound_at J lower (suc n)) (bound_at J lower (best_round J lower n))) (suc n) (best_round J lower n)
 
--- an answer that passed
-abbrev pub answer_of : ℕ → ℕ → List ℕ → WeightsFound
-answer_of bound rounds weights = record { verdict = Passed; bound = bound; rounds = rounds; weights = weights }
-
 -- the answer of n rounds: the least bound met, n, and the weights that first gave the bound, 0 past the job's kinds
 unfoldable pub found : Job → ℕ → ℕ → WeightsFound
-found J lower zero = answer_of 0 0 (replicate most_kinds 0)
-found J lower (suc n) = answer_of (bound_at J lower (best_round J lower n)) (suc n) (entries (weight_at J lower (best_round J lower n)) J.count)
-
--- the answer where a check refuses: all zeros
-abbrev pub refused_answer : Checked → WeightsFound
-refused_answer v = record { verdict = v; bound = 0; rounds = 0; weights = replicate most_kinds 0 }
-
--- an answer where a verdict passes, and else the refusal
-abbrev pub find_answer_by : Checked → WeightsFound → WeightsFound
-find_answer_by v a = by_check v a (λ r. refused_answer (Refused r))
+found J lower zero = record { bound = 0; rounds = 0; weights = replicate most_kinds 0 }
+found J lower (suc n) = record { bound = bound_at J lower (best_round J lower n); rounds = suc n; weights = entries (weight_at J lower (best_round J lower n)) J.count }
 
 -- the answer of the run: refusals of round 0 refuse the call, later ones end it
-abbrev pub run_answer : Job → ℕ → Lent → WeightsFound
-run_answer J lower m = find_answer_by (round_verdict J (weight_at J lower 0) m) (found J lower (rounds_run J lower m))
+abbrev pub run_answer : Job → ℕ → Lent → Answer WeightsFound
+run_answer J lower m = answer_by (round_verdict J (weight_at J lower 0) m) (found J lower (rounds_run J lower m))
 
 -- the verdict of the checks before the rounds: the job's, 1 to 7, 27 and 35, and the lent plan's, 10 to 18, 36 and 26
 abbrev pub before_verdict : List ℕ → Choices → List ℕ → List ℕ → Checked
-before_verdict s choices kinds operands = (arrays_answer s choices kinds operands).verdict
+before_verdict s choices kinds operands = verdict_of (arrays_answer s choices kinds operands)
 
--- the lower figure: the profit of the lent plan
+-- the lower figure: the profit of the lent plan, that of the tree that its arrays draw
 abbrev pub lower_figure : List ℕ → Choices → List ℕ → List ℕ → ℕ
-lower_figure s choices kinds operands = (arrays_answer s choices kinds operands).report.profit
+lower_figure s choices kinds operands = profit (block_job s choices) (tree_in kinds operands)
 
 -- the verdict of the call: those, then 19, 20 and 21 of round 0
 abbrev pub find_verdict : List ℕ → Choices → List ℕ → List ℕ → Lent → Checked
@@ -129,16 +118,12 @@ find_found s choices kinds operands m =
     found (block_job s choices) (lower_figure s choices kinds operands) (rounds_run (block_job s choices) (lower_figure s choices kinds operands) m)
 
 -- what the call answers
-abbrev pub find_answer : List ℕ → Choices → List ℕ → List ℕ → Lent → WeightsFound
-find_answer s choices kinds operands m = find_answer_by (find_verdict s choices kinds operands m) (find_found s choices kinds operands m)
+abbrev pub find_answer : List ℕ → Choices → List ℕ → List ℕ → Lent → Answer WeightsFound
+find_answer s choices kinds operands m = answer_by (find_verdict s choices kinds operands m) (find_found s choices kinds operands m)
 
--- an answer's values: the bound, the rounds run and the weights of 64 kinds
-abbrev pub found_values : WeightsFound → List ℕ
-found_values a = a.bound ∷ a.rounds ∷ a.weights
-
--- an answer's number and values
-abbrev pub found_outcome : WeightsFound → Outcome
-found_outcome a = outcome_by a.verdict (found_values a)
+-- an answer's number and values: the bound, the rounds run and the weights of 64 kinds
+abbrev pub found_outcome : Answer WeightsFound → Outcome
+found_outcome r = outcome_of found_values r
 
 -- the number and values that the call answers
 abbrev pub find_said : List ℕ → Choices → List ℕ → List ℕ → Lent → Outcome
@@ -146,7 +131,7 @@ find_said s choices kinds operands m = outcome_by (find_verdict s choices kinds 
 
 -- what a round with these weights leaves in lent memory: what a writing call of its own would
 pub record RoundLeaves (J : Job) (weight : ℕ → ℕ) (old new : Lent) : Type 0 where
-  pub memory : Leaves Passed (widened J) weight (capacity J weight) old.memory new.memory
+  pub memory : Leaves passed (widened J) weight (capacity J weight) old.memory new.memory
   pub kinds : new.kinds ≡ list_after (round_verdict J weight old) (kinds_of (bound_plan J weight)) old.kinds
   pub operands : new.operands ≡ list_after (round_verdict J weight old) (operands_of (bound_plan J weight)) old.operands
 
@@ -196,15 +181,15 @@ pub record BoundAgain (s : List ℕ) (choices : Choices) (a : WeightsFound) : Ty
 -- the least met, with the weights that first gave it, which the bound call accepts and gives the same bound; at most 18 rounds are run, each
 -- with a true gap and a plan without an idle cut, and no guillotine tree on the plate that keeps every demand, cut at whole units or finer,
 -- earns more than the answered bound. Steps and stop follow their rules
-pub record FindPromises (s : List ℕ) (choices : Choices) (kinds operands : List ℕ) (old new : Lent) (r : WeightsFound) : Type 0 where
+pub record FindPromises (s : List ℕ) (choices : Choices) (kinds operands : List ℕ) (old new : Lent) (r : Answer WeightsFound) : Type 0 where
   pub answers : r ≡ find_answer s choices kinds operands old
   pub outcome : found_outcome r ≡ find_said s choices kinds operands old
   pub memory : FindLeaves s choices kinds operands old new
-  pub least : r.verdict ≡ Passed → LeastMet (block_job s choices) (lower_figure s choices kinds operands) r
-  pub again : r.verdict ≡ Passed → BoundAgain s choices r
-  pub rounds : r.rounds ≤ most_rounds
-  pub each : r.verdict ≡ Passed → (k : ℕ) → k < r.rounds → RoundHolds (block_job s choices) (lower_figure s choices kinds operands) k
-  pub demands : r.verdict ≡ Passed → NoneAbove (block_job s choices) r.bound
-  pub finer : r.verdict ≡ Passed → NoneFiner (block_job s choices) r.bound
+  pub least : ForOk r (LeastMet (block_job s choices) (lower_figure s choices kinds operands))
+  pub again : ForOk r (BoundAgain s choices)
+  pub rounds : ForOk r (λ a. a.rounds ≤ most_rounds)
+  pub each : ForOk r (λ a. (k : ℕ) → k < a.rounds → RoundHolds (block_job s choices) (lower_figure s choices kinds operands) k)
+  pub demands : ForOk r (λ a. NoneAbove (block_job s choices) a.bound)
+  pub finer : ForOk r (λ a. NoneFiner (block_job s choices) a.bound)
   pub steps : StepRules
   pub stop : StopRules (block_job s choices) (lower_figure s choices kinds operands) old

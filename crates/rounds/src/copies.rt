@@ -22,10 +22,7 @@ pub fn keep_demands(copies: &[u16; 64], demands: &[u16; 64], n: u16) -> bool
 fn is_piece(kind: u8) -> bool
     ensures { result ≡ lays kind }
 {
-    if kind == 1 {
-        return true;
-    }
-    kind == 4
+    kind == 1 || kind == 4
 }
 
 // One node more of a written plan: a piece's copy is counted.
@@ -33,14 +30,10 @@ fn count_node(copies: &mut [u16; 64], kind: u8, operand: u16)
     requires { (length copies.old ≡ 64) × ((k : ℕ) → k < 64 → get_or copies.old k 0 < 65535) }
     ensures { (length copies.new ≡ 64) × ((k : ℕ) → k < 64 → get_or copies.new k 0 ≡ get_or copies.old k 0 + piece_here kind operand k) }
 {
-    if !is_piece(kind) {
-        return;
-    }
     let at = operand as usize;
-    if 64 <= at {
-        return;
+    if is_piece(kind) && at < 64 {
+        copies[at] += 1;
     }
-    copies[at] = copies[at] + 1;
 }
 
 // The copies of each of 64 kinds in the first nodes of a written plan.

@@ -1,5 +1,5 @@
 -- A row that began as the row before it, took its length cuts, its kinds and its width cuts holds its figures; and the fill row after row.
-use Rattle.row_fill.proofs.Prelude.{◌≡◌, refl, sym, ◌∙◌, ap, ap₂, List, ℕ, ◌+◌, ◌-◌, ◌*◌, ◌≤◌, ◌<◌, mul-le-mul_right, ℕ_discrete, dec_le, arith, T, leb, leb→le, le→leb, length, get_or, drop, replicate, length-replicate, get_or-replicate, List·getD-eq-default, Length, Width, upright, Job, figure_of, InTableRange, listed_weight, table_lies, positions_some, positions_length, TableSize, words_needed, Figures, Kept, size_job, Fillable, FilledBy, Run, HalfReady, Half, remainder, Axis, figure_at, cell_before, words_past, half_cuts, half_ready, half_next, entry_is, positions_axis, plain_order, figure_one, across, across_joins, no_side, two_parts, more_side, piece_most, state_low, complete, Pieces, Entries, LengthsTaken, WidthsTaken, Rows, ceiling, Capped, LengthsReady, RowReady}
+use Rattle.row_fill.proofs.Prelude.{◌≡◌, refl, sym, ◌∙◌, ap, ap₂, List, ℕ, ◌+◌, ◌-◌, ◌*◌, ◌≤◌, ◌<◌, ℕ_discrete, dec_le, arith, T, leb, leb→le, le→leb, length, get_or, drop, replicate, length-replicate, get_or-replicate, List·getD-eq-default, Length, Width, upright, Job, figure_of, InTableRange, listed_weight, table_lies, positions_some, positions_length, TableSize, words_needed, Figures, Kept, size_job, Fillable, FilledBy, Run, HalfReady, Half, remainder, Axis, figure_at, cell_before, words_past, half_cuts, half_ready, half_next, entry_is, positions_axis, plain_order, figure_one, across, across_joins, no_side, two_parts, more_side, piece_most, state_low, complete, Pieces, Entries, LengthsTaken, WidthsTaken, Rows, ceiling, Capped, LengthsReady, RowReady}
 use Rattle.row_fill.proofs.Taken.{half_found, positions_entries, side_taken, cut_low, cut_taken, push_taken, each}
 
 -- the fill before row a: the rows below it hold their figures, every word past the last row is as it was, and no unit is more than two
@@ -124,9 +124,6 @@ module _ {size : TableSize} {pieces normal_lengths normal_widths floors lent : L
     -- the row before lies before it
     pub row_above : columns ≤ start
     row_above = omega (arith, fill.place, cell_before 0 a columns fill.from)
-
-    pub end_few : start + columns ≤ 1042441
-    end_few = omega (arith, row_end, mul-le-mul_right {m = length_count} {n = 1021} columns few_rows, few_columns)
 
     -- what the search for the half asks
     pub row_half : HalfReady normal_lengths from a

@@ -1,6 +1,6 @@
 -- The width cuts of a row, cell after cell: the cells passed are final, and the units past them have what the cells passed pushed. Then the
 -- row's steps together: its words at their units, its kinds, its width cuts.
-use Rattle.row_fill.proofs.Prelude.{◌≡◌, refl, sym, ◌∙◌, ap, List, inl, inr, ⊎_elim, ℕ, ◌+◌, ◌-◌, ◌*◌, ◌≤◌, ◌<◌, min, ℕ_discrete, dec_le, arith, length, get_or, set, get_or-set_same, get_or-set_other, Outside, Run, outside_none, Raised, Pieces, Pushed, CellPush, Entries, Spread, Joins, Widened, WidthsTaken, ceiling, Capped, Laid, WidthsReady, RowReady}
+use Rattle.row_fill.proofs.Prelude.{◌≡◌, refl, sym, ◌∙◌, ap, List, inl, inr, ⊎_elim, ℕ, ◌+◌, ◌-◌, ◌*◌, ◌≤◌, ◌<◌, min, ℕ_discrete, dec_le, arith, length, get_or, set, get_or-set_same, get_or-set_other, Outside, Run, Raised, Pieces, Pushed, CellPush, Entries, Spread, Joins, Widened, WidthsTaken, ceiling, Capped, Laid, WidthsReady, RowReady}
 use Rattle.row_fill.proofs.Raising.{raised_same}
 
 -- the cells below b have taken their width cuts, and pushed them
@@ -27,20 +27,6 @@ module _ {normal_widths : List ℕ} {columns side : ℕ} (entries : Entries norm
       go (no e) = omega (arith, entries.rise i j (omega arith) l)
 
   module _ {start : ℕ} {units old : List ℕ} where
-    -- only the first cell, of width 0
-    pub widening_none : get_or units 0 0 ≡ get_or old start 0 → Widening normal_widths columns start 1 units units old old
-    widening_none e = record {
-      done = λ i h. first i (omega arith);
-      grown = λ i h. omega arith;
-      before = λ i l h. absurd (omega arith);
-      sums = λ i j c p q h m s u. absurd (omega arith);
-      low = λ f j base. (λ y h. (let z : y ≡ get_or normal_widths 0 0 = omega (arith, entries.first) in rw z (base 0 entries.some)), base);
-      rest = outside_none start (start + 1) old;
-    }
-      where
-        first : (i : ℕ) → i ≡ 0 → get_or units (get_or normal_widths i 0) 0 ≡ get_or old (start + i) 0
-        first i z = let f = entries.first in let g : start + 0 ≡ start = omega arith in rw (z, f, g) e
-
     module _ {b v : ℕ} {unit flat table : List ℕ} (lb : 1 ≤ b) (hb : b < columns) (word : v ≡ get_or table (start + (b - 1)) 0) (w : Widening normal_widths columns start b units unit old table)
         (level : Run (λ j. v) (get_or normal_widths (b - 1) 0 + 1) (get_or normal_widths b 0 - (get_or normal_widths (b - 1) 0 + 1)) unit flat) where
       abbrev x : ℕ

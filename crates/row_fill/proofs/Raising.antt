@@ -1,6 +1,6 @@
--- Laws of words that take values where those are more: none offered, one, and those of two steps together; and of each loop's values, none
--- yet and one more.
-use Rattle.row_fill.proofs.Prelude.{◌≡◌, refl, sym, ◌∙◌, ap, ap₂, List, ◌⊎◌, inl, inr, ⊎_elim, ℕ, ◌+◌, ◌-◌, ◌*◌, ◌≤◌, ◌<◌, min, max, ℕ_discrete, dec_le, arith, below_more, length, get_or, set, get_or-set_same, get_or-set_other, remainder, Run, cell_before, run_none, run_more, size_in, price_in, listed_weight, Raised, Single, Sums, LengthCuts, Alone, Pieces, Pushed, CellPush, Entries, Spread, LengthsTaken, ceiling, SumsReady, LengthsReady}
+-- Laws of words that take values where those are more: none offered, one, and those of two steps together; and of each loop's values,
+-- one more.
+use Rattle.row_fill.proofs.Prelude.{◌≡◌, refl, sym, ◌∙◌, ap, ap₂, List, ◌⊎◌, inl, inr, ⊎_elim, ℕ, ◌+◌, ◌-◌, ◌*◌, ◌≤◌, ◌<◌, min, max, ℕ_discrete, dec_le, arith, length, get_or, set, get_or-set_same, get_or-set_other, remainder, cell_before, size_in, price_in, listed_weight, Raised, Single, Sums, LengthCuts, Alone, Pieces, Pushed, CellPush, LengthsTaken, ceiling, SumsReady, LengthsReady}
 
 pub raised_none : {A : ℕ → ℕ → Type 0} {xs : List ℕ} → ((i v : ℕ) → A i v → ⊥) → Raised A xs xs
 raised_none e = record { grown = λ i. omega arith; low = λ i b f h. h; taken = λ i v a. absurd (e i v a) }
@@ -49,19 +49,12 @@ raised_cong f g p = record { grown = p.grown; low = λ i b s l. p.low i b (λ v 
 pub raised_same : {A : ℕ → ℕ → Type 0} {old new : List ℕ} → Raised A old new → (i : ℕ) → ((v : ℕ) → A i v → ⊥) → get_or new i 0 ≡ get_or old i 0
 raised_same {old = old} p i e = omega (arith, p.grown i, p.low i (get_or old i 0) (λ v a. absurd (e v a)) (omega arith))
 
--- no sum yet, and one more
-pub sums_none : {target first second : ℕ} {xs : List ℕ} → Raised (Sums xs target first second 0) xs xs
-sums_none = raised_none (λ i v s. omega (arith, s.inside))
-
 module _ {target first second j : ℕ} {old mid : List ℕ} (p : Raised (Sums old target first second j) old mid) where
   -- the words before the row are as they were
   pub sums_same : (i : ℕ) → i < target → get_or mid i 0 ≡ get_or old i 0
   sums_same i h = raised_same p i (λ v s. omega (arith, s.place))
 
-  -- a word that has taken no sum yet is as it was
-  pub sums_later : get_or mid (target + j) 0 ≡ get_or old (target + j) 0
-  sums_later = raised_same p (target + j) (λ v s. omega (arith, s.place, s.inside))
-
+  -- one sum more
   pub sums_next : {new : List ℕ} → first + j < target → second + j < target → Raised (Single (target + j) (get_or mid (first + j) 0 + get_or mid (second + j) 0)) mid new
       → Raised (Sums old target first second (j + 1)) old new
   sums_next hx hy q = raised_more
@@ -76,19 +69,12 @@ module _ {target first second j : ℕ} {old mid : List ℕ} (p : Raised (Sums ol
       last i v s (yes e) = inr (s.place ∙ ap (λ j. target + j) e, s.value ∙ ap (λ j. get_or old (first + j) 0 + get_or old (second + j) 0) e ∙ sym same)
       last i v s (no e) = inl (record { index = s.index; inside = omega (arith, s.inside); place = s.place; value = s.value })
 
--- nothing pushed yet, and one unit more
-pub push_none : {x least v : ℕ} {xs : List ℕ} → Raised (Pushed xs x least least v) xs xs
-push_none = raised_none (λ i u s. omega (arith, s.from, s.to))
-
 module _ {x least v j : ℕ} {old mid : List ℕ} (p : Raised (Pushed old x least j v) old mid) where
   -- the units up to x are as they were
   pub push_same : 1 ≤ least → (i : ℕ) → i ≤ x → get_or mid i 0 ≡ get_or old i 0
   push_same h i l = raised_same p i (λ u s. omega (arith, s.place, s.from))
 
-  -- a unit that has taken nothing yet is as it was
-  pub push_later : get_or mid (x + j) 0 ≡ get_or old (x + j) 0
-  push_later = raised_same p (x + j) (λ u s. omega (arith, s.place, s.to))
-
+  -- one unit more
   pub push_next : {new : List ℕ} → 1 ≤ least → least ≤ j → j ≤ x → Raised (Single (x + j) (v + get_or mid j 0)) mid new → Raised (Pushed old x least (j + 1) v) old new
   push_next h l m q = raised_more
       (λ i u s. record { index = s.index; from = s.from; to = omega (arith, s.to); place = s.place; value = s.value })
@@ -126,10 +112,7 @@ pub piece_placed : {l w piece_length piece_width weight price : ℕ} {old new : 
     → Raised (Single piece_width price) old new → Raised (Alone l w piece_length piece_width weight price) old new
 piece_placed a b c p = raised_cong (λ i v s. record { long = a; fits = b; light = c; place = s.0; value = s.1 }) (λ i v k. (k.place, k.value)) p
 
--- no piece yet, and one more
-pub pieces_none : {l w : ℕ} {pieces xs : List ℕ} → Raised (Pieces l w pieces 0) xs xs
-pieces_none = raised_none (λ i v s. omega (arith, s.inside))
-
+-- one piece more
 pub pieces_next : {l w j : ℕ} {pieces old mid new : List ℕ} → Raised (Pieces l w pieces j) old mid
     → Raised (Alone l w (size_in pieces j).0 (size_in pieces j).1 (listed_weight pieces j) (price_in pieces j)) mid new → Raised (Pieces l w pieces (j + 1)) old new
 pieces_next {l} {w} {j} {pieces} p q = raised_more
@@ -232,33 +215,3 @@ module _ {normal_lengths length_floors : List ℕ} {a half_end base start column
       below b bound h f v s =
           let e : s.sums.index ≡ b = omega (arith, s.sums.place) in
           omega (arith, s.sums.value, ap (λ b. sum s.part b) e, f s.part s.from s.to s.exact)
-
--- no unit between two entries yet, and one more
-pub level_none : (from v : ℕ) (xs : List ℕ) → Run (λ j. v) from (from - from) xs xs
-level_none from v xs = let e : from - from ≡ 0 = omega arith in rw e (run_none (λ j. v) from xs)
-
-pub level_more : (from y v : ℕ) (old xs : List ℕ) → from ≤ y → y < length xs → Run (λ j. v) from (y - from) old xs → Run (λ j. v) from (y + 1 - from) old (set xs y v)
-level_more from y v old xs h l w =
-    let i : from + (y - from) ≡ y = omega arith in
-    let j : y - from + 1 ≡ y + 1 - from = omega arith in
-    rw (i, j) at (run_more (λ j. v) from (y - from) old xs v (omega arith) refl w)
-
--- no word at its unit yet, and one more
-pub spread_none : {normal_widths table unit : List ℕ} {start : ℕ} → Spread normal_widths start 0 table unit unit
-spread_none = record { here = λ b h. absurd (omega arith); low = λ i bound f h. h }
-
-pub spread_more : {normal_widths table old unit : List ℕ} {columns side start b x : ℕ} → Entries normal_widths columns side → b < columns → x ≡ get_or normal_widths b 0 → x < length unit
-    → Spread normal_widths start b table old unit → Spread normal_widths start (b + 1) table old (set unit x (get_or table (start + b) 0))
-spread_more {normal_widths} {table} {old} {unit} {columns} {side} {start} {b} {x} entries h e l w = record { here = λ i m. here i m; low = λ i bound f k. low i bound f k (ℕ_discrete i x) }
-  where
-    next : List ℕ
-    next = set unit x (get_or table (start + b) 0)
-
-    here : (i : ℕ) → i < b + 1 → get_or next (get_or normal_widths i 0) 0 ≡ get_or table (start + i) 0
-    here i m = below_more (λ i. get_or next (get_or normal_widths i 0) 0 ≡ get_or table (start + i) 0) b
-        (λ i k. get_or-set_other unit x (get_or normal_widths i 0) (get_or table (start + b) 0) 0 (λ z. omega (arith, entries.rise i b k h)) ∙ w.here i k)
-        (let f : get_or normal_widths b 0 ≡ x = sym e in rw f (get_or-set_same unit x (get_or table (start + b) 0) 0 l)) i m
-
-    low : (i bound : ℕ) → ((c : ℕ) → c < b + 1 → get_or table (start + c) 0 ≤ bound) → get_or old i 0 ≤ bound → Dec (i ≡ x) → get_or next i 0 ≤ bound
-    low i bound f k (yes z) = rw z (omega (arith, get_or-set_same unit x (get_or table (start + b) 0) 0 l, f b (omega arith)))
-    low i bound f k (no z) = omega (arith, get_or-set_other unit x i (get_or table (start + b) 0) 0 z, w.low i bound (λ c m. f c (omega arith)) k)

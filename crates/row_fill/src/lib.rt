@@ -11,7 +11,7 @@ ghost use Rattle.row_fill.specs.Raised.{Raised, Sums, Alone, Pieces, Pushed, Cel
 ghost use Rattle.row_fill.specs.Rows.{Entries, Spread, LengthsTaken, Widened, WidthsTaken};
 ghost use Rattle.row_fill.specs.Ready.{Capped, SumsReady, LengthsReady, PiecesReady, PushReady, CellReady, WidthsReady, RowReady};
 
-use table::{TableSize, copy, entry, greater, greater_lifted, half, set_run, widen};
+use table::{TableSize, copy, entry, greater, greater_lifted, half, set_run};
 
 // A row over the units of its width: its first word and its number of cells, its length, the plate's width and the number of pieces.
 #[derive(Clone, Copy, Drop)]
@@ -21,13 +21,6 @@ pub struct Row {
     pub length: u16,
     pub width: u16,
     pub count: u16,
-}
-
-// The smaller of two.
-fn smaller(a: usize, b: usize) -> usize
-    ensures { result ≡ min a b }
-{
-    if a < b { a } else { b }
 }
 
 // Each word of a row becomes the sum of its fellows in two earlier rows where that is more.
@@ -62,7 +55,7 @@ pub fn cut_lengths(
         if entry(normal_lengths, rest) == left {
             combine(table, start, first, base + rest * columns, columns);
         }
-        first = first + columns;
+        first += columns;
     }
 }
 
@@ -96,18 +89,9 @@ fn place_piece(
     requires { w < length unit.old }
     ensures { Raised (Alone l w piece_length piece_width weight price) unit.old unit.new }
 {
-    if piece_length != l {
-        return;
-    }
-    if w < piece_width {
-        return;
-    }
-    if weight != 0 {
-        return;
-    }
-    let x = piece_width as usize;
-    if unit[x] < price {
-        unit[x] = price;
+    if piece_length == l && piece_width <= w && weight == 0 {
+        let x = piece_width as usize;
+        unit[x] = unit[x].max(price);
     }
 }
 
@@ -118,28 +102,15 @@ pub fn place_pieces(unit: &mut [u64], pieces: &[u32; 640], row: Row)
 {
     for i in 0..row.count as usize {
         let at = 5 * i;
-        let l = widen(row.length);
-        let w = widen(row.width);
-        let price = pieces[at + 2] as u64;
         place_piece(
             unit,
-            l,
-            w,
+            u32::from(row.length),
+            u32::from(row.width),
             pieces[at],
             pieces[at + 1],
             pieces[at + 3],
-            price,
+            u64::from(pieces[at + 2]),
         );
-    }
-}
-
-// The units from `from` to x less 1, between two entries, become v.
-fn level(unit: &mut [u64], from: usize, x: usize, v: u64)
-    requires { (from ≤ x) × (x ≤ length unit.old) }
-    ensures { Run (λ j. v) from (x - from) unit.old unit.new }
-{
-    for y in from..x {
-        unit[y] = v;
     }
 }
 
@@ -164,7 +135,7 @@ fn push_cell(unit: &mut [u64], x: usize, least: usize, side: usize, before: u64)
         unit[x] = before;
         return;
     }
-    push(unit, x, least, smaller(x, side - x) + 1, v);
+    push(unit, x, least, x.min(side - x) + 1, v);
 }
 
 // The cells of a row take their width cuts, from the units of their widths.
@@ -182,7 +153,8 @@ pub fn push_widths(
     for b in 1..columns {
         let x = entry(normal_widths, b);
         let before = table[start + (b - 1)];
-        level(unit, entry(normal_widths, b - 1) + 1, x, before);
+        let past = entry(normal_widths, b - 1) + 1;
+        set_run(unit, past, x - past, before);
         push_cell(unit, x, entry(normal_widths, 1), side, before);
         table[start + b] = unit[x];
     }
@@ -230,7 +202,7 @@ pub fn fill(
     let mut unit = [0u64; 1021];
     set_run(table, 0, columns, 0);
     let mut start = columns;
-    let mut half_end: usize = 1;
+    let mut half_end = 1;
     for a in 1..rows {
         half_end = half(normal_lengths, half_end, a);
         copy(table, start - columns, start, columns);
@@ -245,13 +217,13 @@ pub fn fill(
             columns,
         );
         let row = Row {
-            start: start,
-            columns: columns,
+            start,
+            columns,
             length: normal_lengths[a],
             width: size.width,
             count: size.count,
         };
         fill_row(table, &mut unit, pieces, normal_widths, row);
-        start = start + columns;
+        start += columns;
     }
 }

@@ -1,5 +1,6 @@
 mod Prelude
 pub mod Prices
+pub mod Sawn
 pub mod Six
 pub mod Office
 pub mod Calls

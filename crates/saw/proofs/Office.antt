@@ -1,16 +1,17 @@
 -- The saw beside the office: a plan's check with other prices has the same verdict, copies and areas, and without 6 the block's checks
 -- decide alike.
-use Rattle.saw.proofs.Prelude.{◌≡◌, refl, sym, ◌∙◌, ap, Bool, true, false, List, [], ◌∷◌, ◌++◌, ℕ, zero, suc, ◌+◌, ◌-◌, ◌*◌, ltb, get_or, set, Node, Waste, Piece, Turned, Cut, most_price, most_demand, area, breadth, Rect, Job, laid, Price, Demand, Checked, Passed, Refused, next, refuse_when, first_refusal, Choices, price_at, demand_at, sizes_end, count_at, header_checks, size_check, pair_checks, each_kind, grain_checks, job_checks, block_job, block_parts, idle_checks, Report, PlanAnswer, node_of, node_checks, parts, report_after, empty_report, proceed, walk, plan_checks, nodes_in, walk_answer, plan_answer, arrays_answer, no_pass, SawReport, SawAnswer, demand_checks, saw_checks, saw_job, without_profit, saw_of, saw_answer, BesideOffice}
+use Rattle.saw.proofs.Prelude.{◌≡◌, refl, sym, ◌∙◌, ap, Bool, true, false, List, [], ◌∷◌, ◌++◌, ℕ, zero, suc, ◌+◌, ◌-◌, ◌*◌, ltb, get_or, set, Node, Waste, Piece, Turned, Cut, most_price, most_demand, area, breadth, Rect, Job, laid, Price, Demand, next, refuse_when, first_refusal, Choices, price_at, demand_at, sizes_end, count_at, header_checks, size_check, pair_checks, each_kind, grain_checks, job_checks, block_job, block_parts, idle_checks, Report, node_of, node_checks, parts, report_after, empty_report, proceed, walk, plan_checks, nodes_in, walk_answer, plan_answer, arrays_answer, no_pass, SawReport, demand_checks, saw_checks, saw_job, without_profit, saw_of, saw_answer, BesideOffice, Ok, Err, Checked, Answer, verdict_of}
 use Rattle.cutting.specs.Pieces as laid
+use Rattle.saw.proofs.Sawn.{sawn_verdict, refused_verdict}
 
 -- a job at other prices
 abbrev at_prices : (ℕ → ℕ) → Job → Job
 at_prices price J = record { plate = J.plate; kerf = J.kerf; turning = J.turning; full_demand = J.full_demand; count = J.count; size = J.size; price = price; demand = J.demand; grain = J.grain }
 
 -- what follows a check is alike where it is
-proceed_alike : (v : Checked) (a b : PlanAnswer) → saw_of a ≡ saw_of b → saw_of (proceed v a) ≡ saw_of (proceed v b)
-proceed_alike Passed a b h = h
-proceed_alike (Refused r) a b h = refl
+proceed_alike : (v : Checked) (a b : Answer Report) → saw_of a ≡ saw_of b → saw_of (proceed v a) ≡ saw_of (proceed v b)
+proceed_alike (Ok _) a b h = h
+proceed_alike (Err r) a b h = refl
 
 -- a report with a piece more, without its profit
 abbrev laid_more : ℕ → Rect → Rect → SawReport → SawReport
@@ -26,7 +27,7 @@ module _ (J : Job) (price : ℕ → ℕ) where
 
   walk_alike : (ns : List (ℕ × ℕ)) (k : ℕ) (rs : List Rect) (s z : Report) → without_profit s ≡ without_profit z → saw_of (walk J k ns rs s) ≡ saw_of (walk (at_prices price J) k ns rs z)
   unfolding walk
-  walk_alike [] k [] s z h = ap (λ w. record { verdict = Passed; report = w }) h
+  walk_alike [] k [] s z h = ap (λ w. Ok w) h
   walk_alike [] k (r ∷ rs) s z h = refl
   walk_alike (n ∷ ns) k [] s z h = refl
   walk_alike (n ∷ ns) k (r ∷ rs) s z h =
@@ -40,20 +41,21 @@ module _ (J : Job) (price : ℕ → ℕ) where
   unfolding plan_answer walk_answer
   plan_alike kinds operands =
       let w = proceed_alike (first_refusal (plan_checks kinds operands)) _ _ (walk_alike (nodes_in kinds operands) 0 (J.plate ∷ []) empty_report empty_report refl) in
-      ap (λ (a : SawAnswer). saw_of (proceed (next a.verdict (first_refusal (idle_checks 0 kinds))) (walk_answer J kinds operands))) w
-      ∙ proceed_alike (next (walk_answer (at_prices price J) kinds operands).verdict (first_refusal (idle_checks 0 kinds))) (walk_answer J kinds operands) (walk_answer (at_prices price J) kinds operands) w
+      let v = sym (sawn_verdict (walk_answer J kinds operands)) ∙ ap verdict_of w ∙ sawn_verdict (walk_answer (at_prices price J) kinds operands) in
+      ap (λ v. saw_of (proceed (next v (first_refusal (idle_checks 0 kinds))) (walk_answer J kinds operands))) v
+      ∙ proceed_alike (next (verdict_of (walk_answer (at_prices price J) kinds operands)) (first_refusal (idle_checks 0 kinds))) (walk_answer J kinds operands) (walk_answer (at_prices price J) kinds operands) w
 
 -- a verdict that is no 6
 abbrev NotPrice : Checked → Type 0
-NotPrice v = (k : ℕ) → v ≡ Refused (Price k) → ⊥
+NotPrice v = (k : ℕ) → v ≡ Err (Price k) → ⊥
 
 next_alike : (v a b : Checked) → (NotPrice a → a ≡ b) → NotPrice (next v a) → next v a ≡ next v b
-next_alike Passed a b f h = f h
-next_alike (Refused r) a b f h = refl
+next_alike (Ok _) a b f h = f h
+next_alike (Err r) a b f h = refl
 
 alike_next : (a b g : Checked) → (NotPrice a → a ≡ b) → NotPrice (next a g) → next a g ≡ next b g
-alike_next Passed b g f h = ap (λ v. next v g) (f (λ k e. no_pass (sym e)))
-alike_next (Refused r) b g f h = ap (λ v. next v g) (f h)
+alike_next (Ok _) b g f h = ap (λ v. next v g) (f (λ k e. no_pass (sym e)))
+alike_next (Err r) b g f h = ap (λ v. next v g) (f h)
 
 -- the pairs decide alike with and without their prices
 pairs_alike : (h : ℕ) (s : List ℕ) (i n : ℕ) → NotPrice (first_refusal (each_kind (pair_checks h s) i n)) → first_refusal (each_kind (pair_checks h s) i n) ≡ first_refusal (each_kind (demand_checks h s) i n)
@@ -82,12 +84,12 @@ module _ (s : List ℕ) (choices : Choices) where
       ∙ sym (block_parts header_checks demand_checks s choices)
 
   module _ (kinds operands : List ℕ) where
-    office_alike : NotPrice (arrays_answer s choices kinds operands).verdict → saw_answer s choices kinds operands ≡ saw_of (arrays_answer s choices kinds operands)
+    office_alike : NotPrice (verdict_of (arrays_answer s choices kinds operands)) → saw_answer s choices kinds operands ≡ saw_of (arrays_answer s choices kinds operands)
     office_alike f =
-        let v = checks_alike (λ k e. f k (ap (λ v. (proceed v (plan_answer (block_job s choices) kinds operands)).verdict) e)) in
+        let v = checks_alike (λ k e. f k (ap (λ v. verdict_of (proceed v (plan_answer (block_job s choices) kinds operands))) e)) in
         sym (ap (λ v. saw_of (proceed v (plan_answer (block_job s choices) kinds operands))) v
         ∙ proceed_alike (first_refusal (saw_checks s choices)) _ _ (plan_alike (block_job s choices) (saw_job s choices).price kinds operands))
 
     -- so an answer that equals the definition stands beside the office's
-    pub beside : {a : SawAnswer} → a ≡ saw_answer s choices kinds operands → BesideOffice s choices kinds operands a
-    beside e = record { alike = λ f. e ∙ office_alike f; passed = λ p. e ∙ office_alike (λ k q. no_pass (sym q ∙ p)) }
+    pub beside : {a : Answer SawReport} → a ≡ saw_answer s choices kinds operands → BesideOffice s choices kinds operands a
+    beside e = record { alike = λ f. e ∙ office_alike (λ k q. f k (refused_verdict (arrays_answer s choices kinds operands) q)); passed = λ p. e ∙ office_alike (λ k q. no_pass (sym q ∙ p)) }

@@ -1,5 +1,5 @@
 -- The extent of a tree's kinds is the number of its nodes, so that the part of a node holds the entries of its tree and nothing else.
-use Rattle.saw.proofs.Prelude.{◌≡◌, refl, sym, ◌∙◌, ap, ap₂, subst, List, [], ◌∷◌, ◌++◌, map, map-append, append_assoc, append-nil, ℕ, zero, suc, ◌+◌, ◌-◌, ◌*◌, ◌≤◌, ◌<◌, arith, add-one, dec_lt, length, take, drop, get_or, length-append, length-map, drop_of_length-le, List·getD-append, drop-cons, drop-append-add, take_at, get_or-append-add, lt-ltb, le-ltb, Bor, Direction, Length, Width, Node, Cut, only, Tree, waste, piece, cut, preorder, kind_of, node_count, kinds_of, count_cut, Refusal, Checked, Passed, Refused, Choices, PlanOf, kinds_length, operands_length, Part, SawAnswer, SawPasses, saw_job, saw_answer, SawChecks, subtrees, tree_at, left_after, extent, end_of, between, part_if, part_by, node_part, IsPart, AtEnd, HandsBack}
+use Rattle.saw.proofs.Prelude.{◌≡◌, refl, sym, ◌∙◌, ap, ap₂, subst, List, [], ◌∷◌, ◌++◌, map, map-append, append_assoc, append-nil, ℕ, zero, suc, ◌+◌, ◌-◌, ◌*◌, ◌≤◌, ◌<◌, arith, add-one, dec_lt, length, take, drop, get_or, length-append, length-map, drop_of_length-le, List·getD-append, drop-cons, drop-append-add, take_at, get_or-append-add, lt-ltb, le-ltb, Bor, Direction, Length, Width, Node, Cut, only, Tree, waste, piece, cut, preorder, kind_of, node_count, kinds_of, count_cut, Refusal, Choices, PlanOf, kinds_length, operands_length, Part, SawPasses, saw_job, saw_answer, SawChecks, subtrees, tree_at, left_after, extent, end_of, between, part_if, part_by, node_part, IsPart, AtEnd, HandsBack, Ok, Err, passed, Checked, Answer, verdict_of, SawReport}
 use Rattle.cutting.specs.Pieces as laid
 use Rattle.node.specs.Nodes.{node_of}
 use Rattle.saw.proofs.Prices.{same_answer}
@@ -105,13 +105,13 @@ end_tree t n h =
 
 -- where the part of a node begins and ends, case by case
 module _ (v : Checked) (kinds : List ℕ) (count node : ℕ) where
-  pub part_refused : {x : Refusal} → v ≡ Refused x → between count count ≡ part_by v kinds count node
+  pub part_refused : {x : Refusal} → v ≡ Err x → between count count ≡ part_by v kinds count node
   part_refused e = sym (ap (λ v. part_by v kinds count node) e)
 
-  pub part_past : v ≡ Passed → count ≤ node → between count count ≡ part_by v kinds count node
+  pub part_past : v ≡ passed → count ≤ node → between count count ≡ part_by v kinds count node
   part_past e h = sym (ap (λ v. part_by v kinds count node) e ∙ ap (λ b. part_if b kinds count node) (le-ltb node count h))
 
-  pub part_at : v ≡ Passed → node < count → {past : ℕ} → past ≡ end_of kinds node → between node past ≡ part_by v kinds count node
+  pub part_at : v ≡ passed → node < count → {past : ℕ} → past ≡ end_of kinds node → between node past ≡ part_by v kinds count node
   part_at e h p = ap (between node) p ∙ sym (ap (λ v. part_by v kinds count node) e ∙ ap (λ b. part_if b kinds count node) (lt-ltb node count h))
 
   -- whatever the plan, a node past it has the empty part
@@ -119,12 +119,12 @@ module _ (v : Checked) (kinds : List ℕ) (count node : ℕ) where
   past_empty h = go v
     where
       go : (v : Checked) → part_by v kinds count node ≡ between count count
-      go Passed = ap (λ b. part_if b kinds count node) (le-ltb node count h)
-      go (Refused r) = refl
+      go (Ok _) = ap (λ b. part_if b kinds count node) (le-ltb node count h)
+      go (Err r) = refl
 
 -- the arrays of a plan that passes have one length
-pub same_length : (s : List ℕ) (choices : Choices) (kinds operands : List ℕ) {a : SawAnswer} → SawChecks s choices kinds operands a → a.verdict ≡ Passed → length kinds ≡ length operands
-same_length s choices kinds operands c e = let t = c.tree e in
+pub same_length : (s : List ℕ) (choices : Choices) (kinds operands : List ℕ) {a : Answer SawReport} {r : SawReport} → SawChecks s choices kinds operands a → a ≡ Ok r → length kinds ≡ length operands
+same_length s choices kinds operands c e = let t = c.tree _ e in
     ap length t.1.drawn.kinds_are ∙ kinds_length t.0 ∙ sym (operands_length t.0) ∙ sym (ap length t.1.drawn.operands_are)
 
 -- a part, and where it lies
@@ -142,7 +142,7 @@ at_end bytes array r p e i =
 
 module _ (s : List ℕ) (choices : Choices) (kinds operands : List ℕ) (node : ℕ) where
   abbrev verdict : Checked
-  verdict = (saw_answer s choices kinds operands).verdict
+  verdict = verdict_of (saw_answer s choices kinds operands)
 
   -- the part of a node of a passed plan, in either array, is its tree's
   pub part_tree : SawPasses s choices → (t : Tree laid.Piece) → PlanOf (saw_job s choices) t kinds operands → node < node_count t → (array : List ℕ) → length array ≡ node_count t
@@ -155,12 +155,12 @@ module _ (s : List ℕ) (choices : Choices) (kinds operands : List ℕ) (node : 
     pub handed : HandsBack bytes (λ t. listed g t) s choices kinds operands node array r
     handed = record {
       part_is = i;
-      blind = λ z o. subst (λ (a : SawAnswer). IsPart bytes (part_by a.verdict kinds (length array.now) node) array r) (same_answer choices s z o kinds operands) i;
+      blind = λ z o. subst (λ (a : Answer SawReport). IsPart bytes (part_by (verdict_of a) kinds (length array.now) node) array r) (same_answer choices s z o kinds operands) i;
       tree = λ b t p h. (
           let q = subst (λ p. IsPart bytes p array r) (part_tree b t p h array.now (ap length (drawn t p) ∙ listed_length g t)) i in
           let l : node + node_count (tree_at t node) - node ≡ node_count (tree_at t node) = omega arith in
           (q.0 ∙ ap₂ (λ m l. take m (drop node l)) l (drawn t p) ∙ own_entries g t node h, q.1)
           );
-      refused = λ x e. at_end bytes array r _ (sym (part_refused verdict kinds (length array.now) node e)) i;
+      refused = λ x e. at_end bytes array r _ (sym (part_refused verdict kinds (length array.now) node (ap verdict_of e))) i;
       past = λ h. at_end bytes array r _ (past_empty verdict kinds (length array.now) node h) i;
     }

@@ -1,16 +1,17 @@
 -- The saw never gives 6: no check of its own, and none of a plan, has that number.
-use Rattle.saw.proofs.Prelude.{Bool, true, false, List, [], ◌∷◌, ◌++◌, ℕ, zero, suc, ◌+◌, arith, Rect, Job, Refusal, Checked, Passed, Refused, Check, next, refuse_when, first_refusal, Choices, sizes_end, count_at, header_checks, size_check, each_kind, array_checks, grain_check, grain_checks, idle_checks, Report, PlanAnswer, node_of, node_checks, parts, report_after, empty_report, proceed, walk, plan_checks, nodes_in, walk_answer, plan_answer, NeverSix, demand_checks, saw_checks, saw_job, saw_answer}
+use Rattle.saw.proofs.Prelude.{sym, subst, verdict_of, Bool, true, false, List, [], ◌∷◌, ◌++◌, ℕ, zero, suc, ◌+◌, arith, Rect, Job, Refusal, Check, next, refuse_when, first_refusal, Choices, sizes_end, count_at, header_checks, size_check, each_kind, array_checks, grain_check, grain_checks, idle_checks, Report, node_of, node_checks, parts, report_after, empty_report, proceed, walk, plan_checks, nodes_in, walk_answer, plan_answer, NeverSix, demand_checks, saw_checks, saw_job, saw_answer, Ok, Err, Checked, Answer}
+use Rattle.saw.proofs.Sawn.{sawn_verdict}
 
 -- none of a list of checks has number 6
 abbrev NoneSix : List Check → Type 0
 NoneSix [] = Unit
-NoneSix (c ∷ cs) = NeverSix (Refused c.1) × NoneSix cs
+NoneSix (c ∷ cs) = NeverSix (Err c.1) × NoneSix cs
 
 next_never : (v w : Checked) → NeverSix v → NeverSix w → NeverSix (next v w)
-next_never Passed w f g = g
-next_never (Refused r) w f g = f
+next_never (Ok _) w f g = g
+next_never (Err r) w f g = f
 
-when_never : (b : Bool) (r : Refusal) → NeverSix (Refused r) → NeverSix (refuse_when b r)
+when_never : (b : Bool) (r : Refusal) → NeverSix (Err r) → NeverSix (refuse_when b r)
 when_never true r f = f
 when_never false r f = λ e. omega arith
 
@@ -34,15 +35,15 @@ unfolding idle_checks
 none_idle k [] = tt
 none_idle k (n ∷ ns) = (λ e. omega arith, none_idle (k + 1) ns)
 
-proceed_never : (v : Checked) (a : PlanAnswer) → NeverSix v → NeverSix a.verdict → NeverSix (proceed v a).verdict
-proceed_never Passed a f g = g
-proceed_never (Refused r) a f g = f
+proceed_never : (v : Checked) (a : Answer Report) → NeverSix v → NeverSix (verdict_of a) → NeverSix (verdict_of (proceed v a))
+proceed_never (Ok _) a f g = g
+proceed_never (Err r) a f g = f
 
 module _ (J : Job) where
   node_never : (copies : List ℕ) (r : Rect) (k kind operand : ℕ) → NeverSix (first_refusal (node_checks J copies r k kind operand))
   node_never copies r k kind operand = checks_never (node_checks J copies r k kind operand) (λ e. omega arith, (λ e. omega arith, (λ e. omega arith, (λ e. omega arith, (λ e. omega arith, (λ e. omega arith, tt))))))
 
-  walk_never : (ns : List (ℕ × ℕ)) (k : ℕ) (rs : List Rect) (s : Report) → NeverSix (walk J k ns rs s).verdict
+  walk_never : (ns : List (ℕ × ℕ)) (k : ℕ) (rs : List Rect) (s : Report) → NeverSix (verdict_of (walk J k ns rs s))
   unfolding walk
   walk_never [] k [] s = λ e. omega arith
   walk_never [] k (r ∷ rs) s = λ e. omega arith
@@ -51,15 +52,15 @@ module _ (J : Job) where
       let m = node_of n.0 n.1 in
       proceed_never (first_refusal (node_checks J s.copies r k n.0 n.1)) _ (node_never s.copies r k n.0 n.1) (walk_never ns (k + 1) (parts J.kerf m r ++ rs) (report_after J m r s))
 
-  walked_never : (kinds operands : List ℕ) → NeverSix (walk_answer J kinds operands).verdict
+  walked_never : (kinds operands : List ℕ) → NeverSix (verdict_of (walk_answer J kinds operands))
   unfolding walk_answer
   walked_never kinds operands = proceed_never (first_refusal (plan_checks kinds operands)) _ (checks_never (plan_checks kinds operands) (λ e. omega arith, (λ e. omega arith, tt))) (walk_never (nodes_in kinds operands) 0 (J.plate ∷ []) empty_report)
 
-  plan_never : (kinds operands : List ℕ) → NeverSix (plan_answer J kinds operands).verdict
+  plan_never : (kinds operands : List ℕ) → NeverSix (verdict_of (plan_answer J kinds operands))
   unfolding plan_answer
   plan_never kinds operands =
       let w = walked_never kinds operands in
-      proceed_never (next (walk_answer J kinds operands).verdict (first_refusal (idle_checks 0 kinds))) (walk_answer J kinds operands) (next_never (walk_answer J kinds operands).verdict (first_refusal (idle_checks 0 kinds)) w (checks_never (idle_checks 0 kinds) (none_idle 0 kinds))) w
+      proceed_never (next (verdict_of (walk_answer J kinds operands)) (first_refusal (idle_checks 0 kinds))) (walk_answer J kinds operands) (next_never (verdict_of (walk_answer J kinds operands)) (first_refusal (idle_checks 0 kinds)) w (checks_never (idle_checks 0 kinds) (none_idle 0 kinds))) w
 
 module _ (s : List ℕ) (choices : Choices) where
   pub read_never : NeverSix (first_refusal (saw_checks s choices))
@@ -75,5 +76,6 @@ module _ (s : List ℕ) (choices : Choices) where
       grains true = none_each (λ i. grain_check (sizes_end choices.old_block) s i ∷ []) 0 (count_at s) (λ k. (λ e. omega arith, tt))
       grains false = tt
 
-  pub saw_never : (kinds operands : List ℕ) → NeverSix (saw_answer s choices kinds operands).verdict
-  saw_never kinds operands = proceed_never (first_refusal (saw_checks s choices)) (plan_answer (saw_job s choices) kinds operands) read_never (plan_never (saw_job s choices) kinds operands)
+  pub saw_never : (kinds operands : List ℕ) → NeverSix (verdict_of (saw_answer s choices kinds operands))
+  saw_never kinds operands = subst NeverSix (sym (sawn_verdict (proceed (first_refusal (saw_checks s choices)) (plan_answer (saw_job s choices) kinds operands))))
+      (proceed_never (first_refusal (saw_checks s choices)) (plan_answer (saw_job s choices) kinds operands) read_never (plan_never (saw_job s choices) kinds operands))

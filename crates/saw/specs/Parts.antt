@@ -1,6 +1,6 @@
 -- The part of a plan's arrays that belongs to a node and all below it: its entries, and where they lie.
 -- docs/SCOPE.md: Saw and office.
-use Rattle.std.specs.Prelude.{◌≡◌, Bool, true, false, List, [], ◌∷◌, ℕ, suc, ◌+◌, ◌-◌, ◌*◌, ◌≤◌, ◌<◌, ltb, length, take, drop, get_or}
+use Rattle.std.specs.Prelude.{◌≡◌, Bool, true, false, List, [], ◌∷◌, ℕ, suc, ◌+◌, ◌-◌, ◌*◌, ◌≤◌, ◌<◌, ltb, length, take, drop, get_or, Err}
 use Rattle.std.specs.Borrow.{Bor}
 use Rattle.promises.specs.declared.Node.{Node}
 use Rattle.promises.specs.declared.Node.TheVariants.{Waste, Piece, Turned, Cut}
@@ -9,9 +9,7 @@ use Rattle.cutting.specs.Tree.{Tree, waste}
 use Rattle.cutting.specs.Pieces as laid
 use Rattle.cutting.specs.Preorder.{node_count}
 use Rattle.promises.specs.declared.Refusal.{Refusal}
-use Rattle.promises.specs.declared.Checked.{Checked}
-use Rattle.promises.specs.declared.Checked.TheVariants.{Refused}
-use Rattle.refusal.specs.Refusals.{Outcome, by_check}
+use Rattle.refusal.specs.Refusals.{Checked, verdict_of, Outcome, by_check}
 use Rattle.promises.specs.declared.Choices.{Choices}
 use Rattle.node.specs.Nodes.{node_of}
 use Rattle.plan.specs.Trees.{PlanOf}
@@ -56,7 +54,7 @@ part_by v kinds count node = by_check v (part_if (ltb node count) kinds count no
 
 -- the part of a node in one of a plan's arrays, for a job block
 abbrev pub node_part : List ℕ → Choices → (kinds operands array : List ℕ) → ℕ → Part
-node_part s choices kinds operands array node = part_by (saw_answer s choices kinds operands).verdict kinds (length array) node
+node_part s choices kinds operands array node = part_by (verdict_of (saw_answer s choices kinds operands)) kinds (length array) node
 
 -- its number and values: 0, the first entry and the number of entries
 abbrev pub part_said : Part → Outcome
@@ -78,5 +76,5 @@ pub record HandsBack (bytes : ℕ) (f : Tree laid.Piece → List ℕ) (s : List 
   pub blind : AtAnyPrices choices s (λ z. IsPart bytes (node_part z choices kinds operands array.now node) array r)
   pub tree : SawPasses s choices → (t : Tree laid.Piece) → PlanOf (saw_job s choices) t kinds operands → node < node_count t
       → (r.now ≡ f (tree_at t node)) × (r.ref_ptr ≡ (array.ref_ptr.0, node * bytes + array.ref_ptr.1))
-  pub refused : (x : Refusal) → (saw_answer s choices kinds operands).verdict ≡ Refused x → AtEnd bytes array r
+  pub refused : (x : Refusal) → saw_answer s choices kinds operands ≡ Err x → AtEnd bytes array r
   pub past : length array.now ≤ node → AtEnd bytes array r

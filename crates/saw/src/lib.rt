@@ -5,89 +5,58 @@
 ghost use Rattle.std.specs.Prelude.{◌≡◌, ◌+◌, ◌≤◌, ◌<◌, ◌^◌, length};
 ghost use Rattle.cutting.specs.Preorder.{kinds_of, operands_of};
 ghost use Rattle.job.specs.Block.{job_outcome};
-ghost use Rattle.plan.specs.Plan.{empty_report};
-ghost use Rattle.promises.specs.declared.Checked.TheVariants.{Passed};
-ghost use Rattle.saw.specs.Saw.{saw_read, saw_read_said, saw_of, without_profit, saw_answer, saw_outcome, saw_said, NeverSix, SawChecks};
+ghost use Rattle.refusal.specs.Refusals.{passed, verdict_of};
+ghost use Rattle.saw.specs.Saw.{saw_read, saw_read_said, without_profit, saw_answer, saw_outcome, saw_said, NeverSix, SawChecks};
 ghost use Rattle.saw.specs.Prices.{AtAnyPrices, PricesFree, BesideOffice};
 ghost use Rattle.saw.specs.Parts.{left_after, end_of, part_by, HandsBack};
 
-use job::{check_block, empty_record, read_unpriced};
+use job::{check_block, read_unpriced};
 use node::decode;
 use plan::check_nodes;
-use promises::{Checked, Choices, JobAnswer, Node, Part, PlanAnswer, SawAnswer, SawReport};
+use promises::{Choices, JobRecord, Node, Part, Refusal, Report, SawReport};
 
 // A job block as the saw reads it, or refused with 1 to 5, 7, 27 or 35: no price is read, and in the record every price is 0.
-pub fn read_saw_job(block: &[u8], choices: Choices) -> JobAnswer
+pub fn read_saw_job(block: &[u8], choices: Choices) -> Result<JobRecord, Refusal>
     ensures answers { result ≡ saw_read block.now choices }
     ensures outcome { job_outcome result ≡ saw_read_said block.now choices }
     ensures blind { AtAnyPrices choices block.now (λ z. result ≡ saw_read z choices) }
-    ensures free { result.verdict ≡ Passed → PricesFree choices block.now }
-    ensures unpriced { NeverSix result.verdict }
+    ensures free { verdict_of result ≡ passed → PricesFree choices block.now }
+    ensures unpriced { NeverSix (verdict_of result) }
 {
-    let verdict = check_block(block, choices, true, false);
-    let Checked::Passed = verdict else {
-        return JobAnswer {
-            verdict: verdict,
-            job: empty_record(),
-        };
-    };
-    JobAnswer {
-        verdict: Checked::Passed,
-        job: read_unpriced(block, choices),
-    }
+    check_block(block, choices, true, false)?;
+    Ok(read_unpriced(block, choices))
 }
 
-// An answer with an empty report.
-fn without_report(verdict: Checked) -> SawAnswer
-    ensures { result ≡ record { verdict = verdict; report = without_profit empty_report } }
+// A plan check's report without its profit.
+fn without_profit(report: Report) -> SawReport
+    ensures { result ≡ without_profit report }
 {
-    let none = [0u16; 64];
-    SawAnswer {
-        verdict: verdict,
-        report: SawReport {
-            copies: none,
-            pieces: 0,
-            waste: 0,
-            trim: 0,
-            sawdust: 0,
-        },
-    }
-}
-
-// A plan check's answer without its profit.
-fn without_profit(answer: PlanAnswer) -> SawAnswer
-    ensures { result ≡ saw_of answer }
-{
-    let verdict = answer.verdict;
-    let report = answer.report;
     let copies = report.copies;
-    SawAnswer {
-        verdict: verdict,
-        report: SawReport {
-            copies: copies,
-            pieces: report.pieces,
-            waste: report.waste,
-            trim: report.trim,
-            sawdust: report.sawdust,
-        },
+    SawReport {
+        copies,
+        pieces: report.pieces,
+        waste: report.waste,
+        trim: report.trim,
+        sawdust: report.sawdust,
     }
 }
 
 // A plan's arrays checked by the saw: refusals 1 to 5, 7, 27 and 35, then 10 to 18, 36 and 26.
-pub fn saw_check(block: &[u8], choices: Choices, kinds: &[u8], operands: &[u16]) -> SawAnswer
+pub fn saw_check(
+    block: &[u8],
+    choices: Choices,
+    kinds: &[u8],
+    operands: &[u16],
+) -> Result<SawReport, Refusal>
     ensures answers { result ≡ saw_answer block.now choices kinds.now operands.now }
     ensures outcome { saw_outcome result ≡ saw_said block.now choices kinds.now operands.now }
     ensures trees { SawChecks block.now choices kinds.now operands.now result }
     ensures blind { AtAnyPrices choices block.now (λ z. result ≡ saw_answer z choices kinds.now operands.now) }
     ensures office { BesideOffice block.now choices kinds.now operands.now result }
 {
-    let read = read_saw_job(block, choices);
-    let verdict = read.verdict;
-    let Checked::Passed = verdict else {
-        return without_report(verdict);
-    };
-    let job = read.job;
-    without_profit(check_nodes(job, kinds, operands))
+    let job = read_saw_job(block, choices)?;
+    let report = check_nodes(job, kinds, operands)?;
+    Ok(without_profit(report))
 }
 
 // The trees left to read after a node, where so many were before it.
@@ -96,9 +65,7 @@ fn left_after(node: Node, left: usize) -> usize
     ensures { (result ≡ left_after node left) × (result ≤ left + 1) }
 {
     match node {
-        Node::Waste => left - 1,
-        Node::Piece(_) => left - 1,
-        Node::Turned(_) => left - 1,
+        Node::Waste | Node::Piece(_) | Node::Turned(_) => left - 1,
         Node::Cut(_, _) => left + 1,
     }
 }
@@ -109,15 +76,13 @@ fn tree_end(kinds: &[u8], node: usize) -> usize
     ensures { (result ≡ end_of kinds.now node) × (node ≤ result) × (result ≤ length kinds.now) }
 {
     let mut left: usize = 1;
-    let mut i = node;
-    while i < kinds.len() {
+    for i in node..kinds.len() {
         if left < 1 {
             return i;
         }
         left = left_after(decode(kinds[i], 0), left);
-        i += 1;
     }
-    i
+    kinds.len()
 }
 
 // For the two calls below and for C: the part of a node in one of the two arrays, which has `count` entries: empty, at the array's end,
@@ -131,15 +96,13 @@ pub fn node_part(
     node: usize,
 ) -> Part
     requires { length kinds.now ≡ length operands.now → count ≡ length kinds.now }
-    ensures { (result ≡ part_by (saw_answer block.now choices kinds.now operands.now).verdict kinds.now count node) × (result.first ≤ result.past) × (result.past ≤ count) }
+    ensures { (result ≡ part_by (verdict_of (saw_answer block.now choices kinds.now operands.now)) kinds.now count node) × (result.first ≤ result.past) × (result.past ≤ count) }
 {
     let none = Part {
         first: count,
         past: count,
     };
-    let answer = saw_check(block, choices, kinds, operands);
-    let verdict = answer.verdict;
-    let Checked::Passed = verdict else {
+    let Ok(_) = saw_check(block, choices, kinds, operands) else {
         return none;
     };
     if count <= node {
@@ -162,9 +125,7 @@ pub fn node_kinds<'a, 'b, 'c>(
     ensures part { HandsBack 1 kinds_of block.now choices kinds.now operands.now node kinds.entry result }
 {
     let part = node_part(block, choices, kinds, operands, kinds.len(), node);
-    let first = part.first;
-    let past = part.past;
-    &kinds[first..past]
+    &kinds[part.first..part.past]
 }
 
 // The part of the operands that belongs to it.
@@ -178,7 +139,5 @@ pub fn node_operands<'a, 'b, 'c>(
     ensures part { HandsBack 2 operands_of block.now choices kinds.now operands.now node operands.entry result }
 {
     let part = node_part(block, choices, kinds, operands, operands.len(), node);
-    let first = part.first;
-    let past = part.past;
-    &operands[first..past]
+    &operands[part.first..part.past]
 }

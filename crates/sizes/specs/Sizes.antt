@@ -4,17 +4,13 @@
 use Rattle.std.specs.Prelude.{◌||◌, not, List, [], ◌∷◌, ℕ, ◌+◌, ◌*◌, ◌≤◌, ◌<◌, ltb, eqb, length, get_or}
 use Rattle.cutting.specs.Limits.{most_true_side, most_true_kerf}
 use Rattle.cutting.specs.Job.{Job}
-use Rattle.refusal.specs.Refusals.{Check, next, first_refusal, by_check}
-use Rattle.promises.specs.declared.Checked.{Checked}
-use Rattle.promises.specs.declared.Checked.TheVariants.{Passed, Refused}
+use Rattle.refusal.specs.Refusals.{Answer, Check, Checked, answer_by, next, first_refusal}
 use Rattle.promises.specs.declared.Refusal.TheVariants.{SizesLength, TrueSize}
 use Rattle.promises.specs.declared.Choices.{Choices}
-use Rattle.promises.specs.declared.JobRecord.{JobRecord}
-use Rattle.job.specs.Block.{u32_at, count_at, each_kind, job_checks, entries, record_of, empty_record}
+use Rattle.job.specs.Block.{u32_at, count_at, each_kind, job_checks, entries, record_of}
 use Rattle.job.specs.Weights.{block_job}
 use Rattle.sizes.specs.declared.TrueSizes.{TrueSizes}
-use Rattle.sizes.specs.declared.SizesAnswer.{SizesAnswer}
-use Rattle.sizes.specs.declared.TrueAnswer.{TrueAnswer}
+use Rattle.sizes.specs.declared.TrueJob.{TrueJob}
 pub use Rattle.promises.specs.True.{true_sides_outside}
 
 -- the plate's length stands first
@@ -63,17 +59,9 @@ sizes_of n s = record {
   widths = entries (true_width_at s) n;
 }
 
--- the sizes where a block is refused
-abbrev pub empty_sizes : TrueSizes
-empty_sizes = record { length = 0; width = 0; kerf = 0; lengths = entries (λ i. 0) 0; widths = entries (λ i. 0) 0 }
-
--- what reading answers by a verdict: sizes, or a refusal
-abbrev pub sizes_by : Checked → TrueSizes → SizesAnswer
-sizes_by v z = by_check v (record { verdict = Passed; sizes = z }) (λ r. record { verdict = Refused r; sizes = empty_sizes })
-
 -- what reading a sizes block for n kinds answers: its sizes, or the first refusal of its checks
-abbrev pub sizes_read : ℕ → List ℕ → SizesAnswer
-sizes_read n s = sizes_by (first_refusal (sizes_checks n s)) (sizes_of n s)
+abbrev pub sizes_read : ℕ → List ℕ → Answer TrueSizes
+sizes_read n s = answer_by (first_refusal (sizes_checks n s)) (sizes_of n s)
 
 -- the true job of a model M: these sizes, and the model's kinds otherwise
 abbrev pub true_job : Job → TrueSizes → Job
@@ -97,17 +85,9 @@ block_true_job s choices z = true_job (block_job s choices) (sizes_of (count_at 
 abbrev pub true_verdict : List ℕ → Choices → List ℕ → Checked
 true_verdict s choices z = next (first_refusal (job_checks s choices)) (first_refusal (sizes_checks (count_at s) z))
 
--- the answer without records
-abbrev pub true_refused : Checked → TrueAnswer
-true_refused v = record { verdict = v; model = empty_record; sizes = empty_sizes }
-
--- what reading answers by a verdict: the records, or a refusal
-abbrev pub true_by : Checked → JobRecord → TrueSizes → TrueAnswer
-true_by v j z = by_check v (record { verdict = Passed; model = j; sizes = z }) (λ r. true_refused (Refused r))
-
 -- what reading a job block and a sizes block answers
-abbrev pub true_read : List ℕ → Choices → List ℕ → TrueAnswer
-true_read s choices z = true_by (true_verdict s choices z) (record_of s choices) (sizes_of (count_at s) z)
+abbrev pub true_read : List ℕ → Choices → List ℕ → Answer TrueJob
+true_read s choices z = answer_by (true_verdict s choices z) (record { model = record_of s choices; sizes = sizes_of (count_at s) z })
 
 -- a job whose sizes are in the ranges of true sizes
 pub record TrueRange (J : Job) : Type 0 where

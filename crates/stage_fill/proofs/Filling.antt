@@ -1,16 +1,11 @@
 -- The blocks cell after cell and block after block, and the table when its lists are off.
-use Rattle.stage_fill.proofs.Prelude.{◌≡◌, refl, sym, ◌∙◌, ap, ap₂, List, [], ◌∷◌, ℕ, zero, suc, ◌+◌, ◌*◌, ◌/◌, ◌%◌, ◌≤◌, ◌<◌, mul-le-mul_right, mod-lt, div-add-mod', div-lt_iff_lt-mul, arith, leb, length, get_or, drop, Direction, Length, Width, Job, block, positions_some, position_count, position, block_number, staged_words, staged_word, size_job, StagedFillable, StagedBy, block_at, cell_before, words_past, entry_is, block_one, block_number_below, Shape, CellsLent, shape_of, Counted, Bare, Plain, lent_kept, lent_of, one_digit, TableSize, Block, first_of, Numbered, block_start, cell_number, Below, BlockLent, BlockMade, StagesLent, StagesMade}
-use Rattle.stage_fill.proofs.Numbers.{few_cells}
-
--- what a block is lent, with a table of the same length
-pub block_kept : {J : Job} {normal_lengths normal_widths floors : List ℕ} {shape : Shape} {block : Block} {old new : List ℕ} → length new ≡ length old → BlockLent J normal_lengths normal_widths floors shape block old → BlockLent J normal_lengths normal_widths floors shape block new
-block_kept e w = record { lent = lent_kept e w.lent; counted = w.counted; one_digit = w.one_digit; numbered = w.numbered; floors_there = w.floors_there; room = omega (arith, e, w.room) }
+use Rattle.stage_fill.proofs.Prelude.{◌≡◌, refl, sym, ◌∙◌, ap, ap₂, List, [], ◌∷◌, ℕ, zero, suc, ◌+◌, ◌*◌, ◌/◌, ◌%◌, ◌≤◌, ◌<◌, mul-le-mul_right, mod-lt, div-add-mod', div-lt_iff_lt-mul, arith, leb, length, get_or, drop, Direction, Length, Width, Job, block, positions_some, position_count, position, block_number, staged_words, staged_word, size_job, StagedFillable, StagedBy, block_at, cell_before, words_past, entry_is, block_one, block_number_below, Shape, CellsLent, shape_of, Counted, Bare, Plain, lent_kept, lent_of, one_digit, TableSize, Block, Numbered, block_start, cell_number, Below, BlockLent, BlockMade, StagesLent, StagesMade}
 
 pub stages_kept : {J : Job} {normal_lengths normal_widths floors : List ℕ} {shape : Shape} {limit : ℕ} {old new : List ℕ} → length new ≡ length old → StagesLent J normal_lengths normal_widths floors shape limit old → StagesLent J normal_lengths normal_widths floors shape limit new
 stages_kept e w = record { lent = lent_kept e w.lent; counted = w.counted; one_digit = w.one_digit; most = w.most; floors_there = w.floors_there; room = omega (arith, e, w.room) }
 
 -- a block whose number is at most twice the limit
-pub stage_block : {J : Job} {normal_lengths normal_widths floors : List ℕ} {shape : Shape} {limit : ℕ} {xs : List ℕ} (block : Block) → Numbered block → block_number block.stage (first_of block) ≤ 2 * limit → StagesLent J normal_lengths normal_widths floors shape limit xs → BlockLent J normal_lengths normal_widths floors shape block xs
+pub stage_block : {J : Job} {normal_lengths normal_widths floors : List ℕ} {shape : Shape} {limit : ℕ} {xs : List ℕ} (block : Block) → Numbered block → block_number block.stage block.first ≤ 2 * limit → StagesLent J normal_lengths normal_widths floors shape limit xs → BlockLent J normal_lengths normal_widths floors shape block xs
 stage_block {shape = shape} {limit = limit} block numbered h w = record {
   lent = w.lent;
   counted = w.counted;
@@ -20,8 +15,8 @@ stage_block {shape = shape} {limit = limit} block numbered h w = record {
   room = omega (
     arith,
     w.room,
-    mul-le-mul_right {m = (block_number block.stage (first_of block) + 1) * (shape.length_count * shape.columns)} {n = (2 * limit + 1) * (shape.length_count * shape.columns)} shape.words
-        (mul-le-mul_right {m = block_number block.stage (first_of block) + 1} {n = 2 * limit + 1} (shape.length_count * shape.columns) (omega arith)),
+    mul-le-mul_right {m = (block_number block.stage block.first + 1) * (shape.length_count * shape.columns)} {n = (2 * limit + 1) * (shape.length_count * shape.columns)} shape.words
+        (mul-le-mul_right {m = block_number block.stage block.first + 1} {n = 2 * limit + 1} (shape.length_count * shape.columns) (omega arith)),
   );
 }
 
@@ -121,11 +116,6 @@ module _ {size : TableSize} {limit : ℕ} {pieces normal_lengths normal_widths f
 
   pub staged_room : (2 * limit + 1) * (size.rows * size.columns) * (size.capacity + 1) ≤ length xs
   staged_room = rw (staged_lent.1.lengths, staged_lent.1.widths) (omega (arith, asked.all))
-
-  pub staged_few : (size.rows * size.columns ≤ 1042441) × ((2 * limit + 1) * (size.rows * size.columns) ≤ 17721497)
-  staged_few =
-      let few = few_cells staged_lent.0 staged_lent.1 in
-      (few, omega (arith, few, mul-le-mul_right {m = 2 * limit + 1} {n = 17} (size.rows * size.columns) (omega (arith, asked.within))))
 
   -- for the shape of that size
   pub stages_lent : StagesLent (size_job size pieces) normal_lengths normal_widths floors (shape_of size 0 (size.capacity + 1)) limit xs

@@ -1,5 +1,5 @@
 -- The cells of the blocks by their numbers: each number is one cell's, one cell more is made, and what a cell finds before it.
-use Rattle.stage_fill.proofs.Prelude.{◌≡◌, refl, sym, ◌∙◌, ap, ap₂, subst, ◌⊎◌, inl, ⊎_elim, List, ℕ, suc, ◌+◌, ◌-◌, ◌*◌, ◌/◌, ◌%◌, ◌≤◌, ◌<◌, mul-le-mul, mul-le-mul_right, mod-lt, div-add-mod', div-lt_iff_lt-mul, ℕ_discrete, dec_le, arith, leb, length, get_or, drop, Direction, Length, Width, most_wide_figure, most_pieces, other, Job, InTableRange, positions_first, positions_some, positions_length, position_count, block_number, Outside, Run, HalfReady, Axis, block_at, cell_before, half_ready, half_cuts, entry_is, entry_side, positions_axis, plain_order, sided, sided_above, block_above, block_low, block_ceiling, block_number_source, block_number_apart, Shape, Line, figure_in, note_in, held, Rises, Ready, Level, Levelled, CellsLent, Counted, figure_plain, note_plain, level_later, Block, Made, States, UncutReady, UncutSteps, LaterReady, LaterSteps, first_of, LineTo, block_start, cell_number, staged_tabled, Below, BlockLent, BlockMade}
+use Rattle.stage_fill.proofs.Prelude.{◌≡◌, refl, sym, ◌∙◌, ap, ap₂, subst, ◌⊎◌, inl, ⊎_elim, List, ℕ, suc, ◌+◌, ◌-◌, ◌*◌, ◌/◌, ◌%◌, ◌≤◌, ◌<◌, mul-le-mul, mul-le-mul_right, mod-lt, div-add-mod', div-lt_iff_lt-mul, ℕ_discrete, dec_le, arith, leb, length, get_or, drop, Direction, Length, Width, most_wide_figure, most_pieces, other, Job, InTableRange, positions_first, positions_some, positions_length, position_count, block_number, Outside, Run, HalfReady, Axis, block_at, cell_before, half_ready, half_cuts, entry_is, entry_side, positions_axis, plain_order, sided, sided_above, block_above, block_low, block_ceiling, block_number_source, block_number_apart, Shape, Line, figure_in, note_in, held, Rises, Ready, Level, Levelled, CellsLent, Counted, figure_plain, note_plain, level_later, Block, Made, States, UncutReady, UncutSteps, LaterReady, LaterSteps, LineTo, block_start, cell_number, staged_tabled, Below, BlockLent, BlockMade}
 use Rattle.stage_fill.proofs.Steps.{rises_same}
 use Rattle.stage_fill.proofs.Making.{made_kept, made_swap, made_ready, Later, later_rest, later_made, later_level, Uncut, uncut_rest, uncut_made, uncut_level}
 
@@ -51,10 +51,6 @@ module _ {J : Job} (own : ℕ → ℕ) {normal_lengths normal_widths : List ℕ}
       go_level k' d' u v hu hv l (yes e) =
           let z = same k' d' u v hu hv e in
           rw (← z.1, ← z.2) (subst (λ (F : ℕ → ℕ → ℕ → ℕ). Level words next (F (get_or normal_lengths a 0) (get_or normal_widths b 0))) z.0 levels.level)
-
--- no cell is numbered below 0
-pub below_none : {J : Job} {own : ℕ → ℕ} {normal_lengths normal_widths : List ℕ} {words : ℕ} {xs : List ℕ} (m : ℕ) → m ≡ 0 → Below J own normal_lengths normal_widths words m 0 xs
-below_none m e = record { most = omega arith; made = λ k d a b ha hb l. absurd (omega arith); level = λ k d a b ha hb l. absurd (omega arith) }
 
 -- a cell of zeros, where the figures are 0
 zeros_made : {words x : ℕ} {f g h : ℕ → ℕ} {old new : List ℕ} → ((s : ℕ) → f s ≡ 0) → Run (λ j. 0) x words old new → Made words x f g h new
@@ -158,7 +154,7 @@ module _ {J : Job} {own : ℕ → ℕ} {normal_lengths normal_widths floors : Li
   cell_room = omega (
     arith,
     lent.room,
-    cell_before m ((block_number block.stage (first_of block) + 1) * (shape.length_count * shape.columns)) words (omega arith),
+    cell_before m ((block_number block.stage block.first + 1) * (shape.length_count * shape.columns)) words (omega arith),
   )
 
   module _ (a b : ℕ) (ea : a ≡ i / shape.columns) (eb : b ≡ i % shape.columns) where
@@ -171,13 +167,13 @@ module _ {J : Job} {own : ℕ → ℕ} {normal_lengths normal_widths floors : Li
     entries : a * r + b ≡ i
     entries = rw (ea, eb, ← lent.counted.widths) (div-add-mod' i shape.columns)
 
-    number_is : (k : ℕ) (d : Direction) → block_number k d ≡ block_number block.stage (first_of block) → cell_number J k d a b ≡ m
+    number_is : (k : ℕ) (d : Direction) → block_number k d ≡ block_number block.stage block.first → cell_number J k d a b ≡ m
     number_is k d e = ap₂ (λ x y. x * y + (a * r + b)) e (sym cells_are) ∙ ap (λ x. block_start shape block + x) entries
 
     -- a cell without length, or without width, holds 0
-    module _ (zero_side : (s : ℕ) → G block.stage (first_of block) a b s ≡ 0) {new : List ℕ} (run : Run (λ j. 0) (m * words) words xs new) where
+    module _ (zero_side : (s : ℕ) → G block.stage block.first a b s ≡ 0) {new : List ℕ} (run : Run (λ j. 0) (m * words) words xs new) where
       pub zero_cell : Below J own normal_lengths normal_widths words (m + 1) flat new
-      zero_cell = below_more own fit below block.stage (first_of block) a b in_length in_width (number_is block.stage (first_of block) refl) (zeros_made zero_side run) run.rest
+      zero_cell = below_more own fit below block.stage block.first a b in_length in_width (number_is block.stage block.first refl) (zeros_made zero_side run) run.rest
           (record { more = omega arith; most = below.most; level = λ s h l. zero_side s ∙ sym (zero_side flat) })
 
     first_length : get_or normal_lengths 0 0 ≡ 0
@@ -186,11 +182,11 @@ module _ {J : Job} {own : ℕ → ℕ} {normal_lengths normal_widths floors : Li
     first_width : get_or normal_widths 0 0 ≡ 0
     first_width = entry_is J Width r normal_widths (drop 1021 floors) fit lent.lent.widths 0 (positions_some J Width) ∙ positions_first J Width
 
-    pub no_length : a ≡ 0 → (s : ℕ) → G block.stage (first_of block) a b s ≡ 0
-    no_length z s = rw (z, first_length) (omega (arith, block_ceiling J leb own plain_order fit block.stage (first_of block) 0 (get_or normal_widths b 0) s))
+    pub no_length : a ≡ 0 → (s : ℕ) → G block.stage block.first a b s ≡ 0
+    no_length z s = rw (z, first_length) (omega (arith, block_ceiling J leb own plain_order fit block.stage block.first 0 (get_or normal_widths b 0) s))
 
-    pub no_width : b ≡ 0 → (s : ℕ) → G block.stage (first_of block) a b s ≡ 0
-    no_width z s = rw (z, first_width) (omega (arith, block_ceiling J leb own plain_order fit block.stage (first_of block) (get_or normal_lengths a 0) 0 s))
+    pub no_width : b ≡ 0 → (s : ℕ) → G block.stage block.first a b s ≡ 0
+    no_width z s = rw (z, first_width) (omega (arith, block_ceiling J leb own plain_order fit block.stage block.first (get_or normal_lengths a 0) 0 s))
 
     -- the cells before it in its block
     module _ (k : ℕ) (d : Direction) (number : cell_number J k d a b ≡ m) where
@@ -263,48 +259,48 @@ module _ {J : Job} {own : ℕ → ℕ} {normal_lengths normal_widths floors : Li
 
     -- a cell without a cut
     module _ (stage_none : block.stage ≡ 0) (la : 1 ≤ a) (lb : 1 ≤ b) where
-      number_none : cell_number J 0 (first_of block) a b ≡ m
-      number_none = number_is 0 (first_of block) (ap (λ k. block_number k (first_of block)) (sym stage_none))
+      number_none : cell_number J 0 block.first a b ≡ m
+      number_none = number_is 0 block.first (ap (λ k. block_number k block.first) (sym stage_none))
 
-      pub uncut_spot : Uncut J own (first_of block) p r normal_lengths floors normal_widths (drop 1021 floors) a b (m * words) shape.stride words xs
+      pub uncut_spot : Uncut J own block.first p r normal_lengths floors normal_widths (drop 1021 floors) a b (m * words) shape.stride words xs
       uncut_spot = record {
         fit = fit;
         lengths = lent.lent.lengths;
         widths = lent.lent.widths;
         length_in = (la, in_length);
         width_in = (lb, in_width);
-        above = rw (shorter_at 0 (first_of block) number_none la) (before_at 0 (first_of block) number_none _ (shorter_number 0 (first_of block) number_none (a - 1) (omega arith)));
-        beside = rw (narrower_at 0 (first_of block) number_none lb) (before_at 0 (first_of block) number_none _ (narrower_number 0 (first_of block) number_none (b - 1) (omega arith)));
-        shorter = rw (shorter_at 0 (first_of block) number_none la) (at_length 0 (first_of block) number_none (a - 1) (omega arith));
-        narrower = rw (narrower_at 0 (first_of block) number_none lb) (at_width 0 (first_of block) number_none (b - 1) (omega arith));
+        above = rw (shorter_at 0 block.first number_none la) (before_at 0 block.first number_none _ (shorter_number 0 block.first number_none (a - 1) (omega arith)));
+        beside = rw (narrower_at 0 block.first number_none lb) (before_at 0 block.first number_none _ (narrower_number 0 block.first number_none (b - 1) (omega arith)));
+        shorter = rw (shorter_at 0 block.first number_none la) (at_length 0 block.first number_none (a - 1) (omega arith));
+        narrower = rw (narrower_at 0 block.first number_none lb) (at_width 0 block.first number_none (b - 1) (omega arith));
       }
 
-      shorter_level : Level words flat (G 0 (first_of block) (a - 1) b)
-      shorter_level = below.level 0 (first_of block) (a - 1) b (omega (arith, in_length)) in_width (shorter_number 0 (first_of block) number_none (a - 1) (omega arith))
+      shorter_level : Level words flat (G 0 block.first (a - 1) b)
+      shorter_level = below.level 0 block.first (a - 1) b (omega (arith, in_length)) in_width (shorter_number 0 block.first number_none (a - 1) (omega arith))
 
       pub uncut_ready : shape.count ≤ most_pieces → UncutReady shape (m * words) flat xs
       uncut_ready few = record {
         one_digit = lent.one_digit;
         states = states;
         few = few;
-        fits = (fits_length 0 (first_of block) number_none la, fits_width 0 (first_of block) number_none lb);
+        fits = (fits_length 0 block.first number_none la, fits_width 0 block.first number_none lb);
         starts = record {
           first_before = uncut_spot.above;
           second_before = uncut_spot.beside;
           room = cell_room;
           most = below.most;
           first_level = level_held uncut_spot.shorter shorter_level;
-          second_level = level_held uncut_spot.narrower (below.level 0 (first_of block) a (b - 1) in_length (omega (arith, in_width)) (narrower_number 0 (first_of block) number_none (b - 1) (omega arith)));
+          second_level = level_held uncut_spot.narrower (below.level 0 block.first a (b - 1) in_length (omega (arith, in_width)) (narrower_number 0 block.first number_none (b - 1) (omega arith)));
         };
-        shorter = made_ready states.0 uncut_spot.above (cell_rises 0 (first_of block) number_none (a - 1) b) (λ s. cell_small 0 (first_of block) number_none (a - 1) b s (omega (arith, in_length)) in_width) uncut_spot.shorter;
-        narrower = made_ready states.0 uncut_spot.beside (cell_rises 0 (first_of block) number_none a (b - 1)) (λ s. cell_small 0 (first_of block) number_none a (b - 1) s in_length (omega (arith, in_width))) uncut_spot.narrower;
-        shorter_rises = rises_same uncut_spot.shorter.figures (cell_rises 0 (first_of block) number_none (a - 1) b);
-        narrower_rises = rises_same uncut_spot.narrower.figures (cell_rises 0 (first_of block) number_none a (b - 1));
+        shorter = made_ready states.0 uncut_spot.above (cell_rises 0 block.first number_none (a - 1) b) (λ s. cell_small 0 block.first number_none (a - 1) b s (omega (arith, in_length)) in_width) uncut_spot.shorter;
+        narrower = made_ready states.0 uncut_spot.beside (cell_rises 0 block.first number_none a (b - 1)) (λ s. cell_small 0 block.first number_none a (b - 1) s in_length (omega (arith, in_width))) uncut_spot.narrower;
+        shorter_rises = rises_same uncut_spot.shorter.figures (cell_rises 0 block.first number_none (a - 1) b);
+        narrower_rises = rises_same uncut_spot.narrower.figures (cell_rises 0 block.first number_none a (b - 1));
       }
 
       pub uncut_cell : {next : ℕ} {new : List ℕ} → UncutSteps J own J.count words shape.stride (m * words) (get_or normal_lengths a 0) (get_or normal_widths b 0) flat next xs new
           → Below J own normal_lengths normal_widths words (m + 1) next new × Outside (m * words) (m * words + words) xs new
-      uncut_cell steps = (below_more own fit below 0 (first_of block) a b in_length in_width number_none (uncut_made uncut_spot steps) (uncut_rest uncut_spot steps) (uncut_level uncut_spot steps below.most shorter_level), uncut_rest uncut_spot steps)
+      uncut_cell steps = (below_more own fit below 0 block.first a b in_length in_width number_none (uncut_made uncut_spot steps) (uncut_rest uncut_spot steps) (uncut_level uncut_spot steps below.most shorter_level), uncut_rest uncut_spot steps)
 
     -- a later cell, whose block is that of stage k + 1 and direction d
     module _ (k : ℕ) (la : 1 ≤ a) (lb : 1 ≤ b) where
@@ -385,9 +381,9 @@ module _ {J : Job} {own : ℕ → ℕ} {normal_lengths normal_widths floors : Li
             )
 
   -- as the code counts: the number of a block, and the words of its cell i
-  module _ (n : ℕ) (is : n ≡ block_number block.stage (first_of block)) where
+  module _ (n : ℕ) (is : n ≡ block_number block.stage block.first) where
     pub few_blocks : n * (shape.length_count * shape.columns) ≤ 16679056
-    few_blocks = omega (arith, few_cells lent.lent lent.counted, mul-le-mul_right {m = n} {n = 16} (shape.length_count * shape.columns) (low block.stage (first_of block) is lent.numbered.0))
+    few_blocks = omega (arith, few_cells lent.lent lent.counted, mul-le-mul_right {m = n} {n = 16} (shape.length_count * shape.columns) (low block.stage block.first is lent.numbered.0))
       where
         low : (k : ℕ) (d : Direction) → n ≡ block_number k d → k ≤ 8 → n ≤ 16
         low k Length e h = omega arith
@@ -405,7 +401,7 @@ module _ {J : Job} {own : ℕ → ℕ} {normal_lengths normal_widths floors : Li
   after_cell : {old new : List ℕ} → Outside (m * words) (m * words + words) old new → (j : ℕ) → (m + 1) * words ≤ j → get_or new j 0 ≡ get_or old j 0
   after_cell out j h = out.after j (omega arith)
 
-  module _ (n : ℕ) (is : n ≡ block_number block.stage (first_of block)) (a b : ℕ) (ea : a ≡ i / shape.columns) (eb : b ≡ i % shape.columns) where
+  module _ (n : ℕ) (is : n ≡ block_number block.stage block.first) (a b : ℕ) (ea : a ≡ i / shape.columns) (eb : b ≡ i % shape.columns) where
     -- a cell without length, or without width
     pub zero_done : (a ≡ 0) ⊎ (b ≡ 0) → {new : List ℕ} → Run (λ j. 0) ((n * (shape.length_count * shape.columns) + i) * words) words xs new
         → BlockMade J own normal_lengths normal_widths shape (m + 1) flat xs new
@@ -423,15 +419,15 @@ module _ {J : Job} {own : ℕ → ℕ} {normal_lengths normal_widths floors : Li
       uncut_done steps = let z = uncut_cell a b ea eb stage_none (omega arith) (omega arith) (rw (word_is n is) at steps) in record { cells = z.0; rest = after_cell z.1 }
 
     -- a later cell
-    module _ (n' : ℕ) (source_is : n' ≡ block_number (block.stage - 1) (other (first_of block))) (some : 1 ≤ block.stage) (na : a ≡ 0 → ⊥) (nb : b ≡ 0 → ⊥) where
-      later_number : (d : Direction) → first_of block ≡ d → cell_number J (suc (block.stage - 1)) d a b ≡ m
+    module _ (n' : ℕ) (source_is : n' ≡ block_number (block.stage - 1) (other block.first)) (some : 1 ≤ block.stage) (na : a ≡ 0 → ⊥) (nb : b ≡ 0 → ⊥) where
+      later_number : (d : Direction) → block.first ≡ d → cell_number J (suc (block.stage - 1)) d a b ≡ m
       later_number d e = number_is a b ea eb (suc (block.stage - 1)) d (let z : suc (block.stage - 1) ≡ block.stage = omega arith in ap₂ block_number z (sym e))
 
-      source_word : (d : Direction) → first_of block ≡ d → (n' * (shape.length_count * shape.columns) + i) * words ≡ cell_number J (block.stage - 1) (other d) a b * words
+      source_word : (d : Direction) → block.first ≡ d → (n' * (shape.length_count * shape.columns) + i) * words ≡ cell_number J (block.stage - 1) (other d) a b * words
       source_word d e = ap (λ x. x * words) (ap₂ (λ x y. x * y + i) (source_is ∙ ap (λ d. block_number (block.stage - 1) (other d)) e) cells_are ∙ ap (λ x. block_number (block.stage - 1) (other d) * (p * r) + x) (sym (entries a b ea eb)))
 
       pub few_source : n' * (shape.length_count * shape.columns) + i ≤ 17721497
-      few_source = omega (arith, few_cells lent.lent lent.counted, mul-le-mul_right {m = n'} {n = 16} (shape.length_count * shape.columns) (low (block.stage - 1) (other (first_of block)) source_is (omega (arith, lent.numbered.0))))
+      few_source = omega (arith, few_cells lent.lent lent.counted, mul-le-mul_right {m = n'} {n = 16} (shape.length_count * shape.columns) (low (block.stage - 1) (other block.first) source_is (omega (arith, lent.numbered.0))))
         where
           low : (k : ℕ) (d : Direction) → n' ≡ block_number k d → k ≤ 8 → n' ≤ 16
           low k Length e h = omega arith
@@ -440,7 +436,7 @@ module _ {J : Job} {own : ℕ → ℕ} {normal_lengths normal_widths floors : Li
       pub few_source_words : (n' * (shape.length_count * shape.columns) + i) * words ≤ 1161396027392
       few_source_words = omega (arith, mul-le-mul few_source states.1)
 
-      module _ (lengthwise : first_of block ≡ Length) where
+      module _ (lengthwise : block.first ≡ Length) where
         pub length_line : HalfReady normal_lengths 1 a × (a * shape.stride ≤ (n * (shape.length_count * shape.columns) + i) * words)
         length_line = (
           half_ready normal_lengths floors p (positions_axis J Length p normal_lengths floors fit lent.lent.lengths) 1 a (omega arith) (omega arith) (in_length a b ea eb) (λ j l h. absurd (omega arith)),
@@ -461,7 +457,7 @@ module _ {J : Job} {own : ℕ → ℕ} {normal_lengths normal_widths floors : Li
               → BlockMade J own normal_lengths normal_widths shape (m + 1) next xs new
           length_done steps = let z = length_cell a b ea eb (block.stage - 1) (omega arith) (omega arith) (later_number Length lengthwise) to_cell (rw (word_is n is, source_word Length lengthwise) at steps) in record { cells = z.0; rest = after_cell z.1 }
 
-      module _ (widthwise : first_of block ≡ Width) where
+      module _ (widthwise : block.first ≡ Width) where
         pub width_line : HalfReady normal_widths 1 b × (b * words ≤ (n * (shape.length_count * shape.columns) + i) * words)
         width_line = (
           half_ready normal_widths (drop 1021 floors) r (positions_axis J Width r normal_widths (drop 1021 floors) fit lent.lent.widths) 1 b (omega arith) (omega arith) (in_width a b ea eb) (λ j l h. absurd (omega arith)),
@@ -481,12 +477,3 @@ module _ {J : Job} {own : ℕ → ℕ} {normal_lengths normal_widths floors : Li
           pub width_done : {next : ℕ} {new : List ℕ} → LaterSteps normal_widths (drop 1021 floors) line ((n' * (shape.length_count * shape.columns) + i) * words) ((n * (shape.length_count * shape.columns) + i) * words - shape.stride) words flat next xs new
               → BlockMade J own normal_lengths normal_widths shape (m + 1) next xs new
           width_done steps = let z = width_cell a b ea eb (block.stage - 1) (omega arith) (omega arith) (later_number Width widthwise) to_width (rw (word_is n is, source_word Width widthwise) at steps) in record { cells = z.0; rest = after_cell z.1 }
-
-  -- its entries are listed
-  pub entries_listed : (a b : ℕ) → a ≡ i / shape.columns → b ≡ i % shape.columns → (a < length normal_lengths) × (b < length normal_widths) × (a ≤ 1020) × (b ≤ 1020)
-  entries_listed a b ea eb = (
-    omega (arith, in_length a b ea eb, (positions_axis J Length p normal_lengths floors fit lent.lent.lengths).listed),
-    omega (arith, in_width a b ea eb, (positions_axis J Width r normal_widths (drop 1021 floors) fit lent.lent.widths).listed),
-    omega (arith, in_length a b ea eb, positions_length J Length, fit.plate_length.1),
-    omega (arith, in_width a b ea eb, positions_length J Width, fit.plate_width.1),
-  )

@@ -47,6 +47,6 @@ unfoldable pub use Rattle.table.specs.States.{below}
 pub use Rattle.table.specs.Table.{position, position_count}
 pub use Rattle.table.specs.Words.{Axis, Half, HalfReady, Outside, Run}
 pub use Rattle.table.specs.declared.TableSize.{TableSize}
-pub use Rattle.stage_fill.specs.Blocks.{Below, BlockLent, BlockMade, LineTo, Numbered, StagesLent, StagesMade, block_start, cell_number, direction_of, first_of, staged_tabled}
+pub use Rattle.stage_fill.specs.Blocks.{Below, BlockLent, BlockMade, LineTo, Numbered, StagesLent, StagesMade, block_start, cell_number, staged_tabled}
 pub use Rattle.stage_fill.specs.Cells.{LaterReady, LaterSteps, Made, States, UncutReady, UncutSteps}
 pub use Rattle.stage_fill.specs.declared.blocks.Block.{Block}

@@ -1,5 +1,5 @@
 -- Inner definitions, cited by the contracts of this crate alone: the blocks' cells, numbered through all blocks, and those that are made.
-use Rattle.std.specs.Prelude.{◌≡◌, Bool, true, false, List, [], ◌∷◌, ℕ, ◌+◌, ◌-◌, ◌*◌, ◌≤◌, ◌<◌, leb, length, get_or, drop}
+use Rattle.std.specs.Prelude.{◌≡◌, List, [], ◌∷◌, ℕ, ◌+◌, ◌-◌, ◌*◌, ◌≤◌, ◌<◌, leb, length, get_or, drop}
 use Rattle.promises.specs.declared.Direction.{Direction}
 use Rattle.promises.specs.declared.Direction.TheVariants.{Length, Width}
 use Rattle.cutting.specs.Limits.{most_limit}
@@ -16,18 +16,9 @@ use Rattle.state_fill.specs.Tables.{Counted}
 use Rattle.stage_fill.specs.declared.blocks.Block.{Block}
 use Rattle.stage_fill.specs.Cells.{Made}
 
--- the direction of first cuts, by whether they are of the width
-abbrev pub direction_of : Bool → Direction
-direction_of true = Width
-direction_of false = Length
-
--- the direction of a block's first cuts
-abbrev pub first_of : Block → Direction
-first_of block = direction_of block.width_first
-
 -- a block up to the greatest limit; only one of width cuts has no stage
 abbrev pub Numbered : Block → Type 0
-Numbered block = (block.stage ≤ most_limit) × (block.width_first ≡ false → 1 ≤ block.stage)
+Numbered block = (block.stage ≤ most_limit) × (block.first ≡ Length → 1 ≤ block.stage)
 
 -- a line of cells ends at the cell of an entry, at word `at`
 pub record LineTo (positions : List ℕ) (at index stride : ℕ) (line : Line) : Type 0 where
@@ -39,7 +30,7 @@ pub record LineTo (positions : List ℕ) (at index stride : ℕ) (line : Line) :
 
 -- the number of a block's first cell, as the code counts the cells of a block
 abbrev pub block_start : Shape → Block → ℕ
-block_start shape block = block_number block.stage (first_of block) * (shape.length_count * shape.columns)
+block_start shape block = block_number block.stage block.first * (shape.length_count * shape.columns)
 
 -- the number of the cell of a block, the a-th normal length and the b-th normal width
 abbrev pub cell_number : Job → ℕ → Direction → ℕ → ℕ → ℕ
@@ -63,7 +54,7 @@ pub record BlockLent (J : Job) (normal_lengths normal_widths floors : List ℕ) 
   pub one_digit : shape.d ≡ 0
   pub numbered : Numbered block
   pub floors_there : length floors ≡ 2042
-  pub room : (block_number block.stage (first_of block) + 1) * (shape.length_count * shape.columns) * shape.words ≤ length xs
+  pub room : (block_number block.stage block.first + 1) * (shape.length_count * shape.columns) * shape.words ≤ length xs
 
 -- blocks are made: the cells numbered below m, and the words past them are as they were
 pub record BlockMade (J : Job) (own : ℕ → ℕ) (normal_lengths normal_widths : List ℕ) (shape : Shape) (m flat : ℕ) (old new : List ℕ) : Type 0 where

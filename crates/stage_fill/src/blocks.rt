@@ -6,63 +6,58 @@ ghost use Rattle.cutting.specs.Shares.{other};
 ghost use Rattle.table.specs.Staged.{block_number};
 ghost use Rattle.table.specs.Words.{HalfReady};
 ghost use Rattle.state_cells.specs.Places.{job_in};
-ghost use Rattle.stage_fill.specs.Blocks.{first_of, Numbered, LineTo, BlockLent, Below, block_start, BlockMade, StagesLent, StagesMade};
+ghost use Rattle.stage_fill.specs.Blocks.{Numbered, LineTo, BlockLent, Below, block_start, BlockMade, StagesLent, StagesMade};
 
 use crate::cells::{make_later, make_uncut};
+use promises::Direction;
 use state_cells::Shape;
 use state_joins::Line;
-use table::{half, set_run, widen};
+use table::{half, set_run};
 
-// A block: its stage, and whether its first cuts go across the width. The block without a cut counts as one of width cuts.
+// A block: its stage, and the direction of its first cuts. The block without a cut counts as one of width cuts.
 #[derive(Clone, Copy, Drop)]
 pub struct Block {
     pub stage: usize,
-    pub width_first: bool,
+    pub first: Direction,
 }
 
-// The number of a block.
-fn number(block: Block) -> usize
-    requires { Numbered block }
-    ensures { result ≡ block_number block.stage (first_of block) }
+// The other direction.
+fn other(first: Direction) -> Direction
+    ensures { result ≡ other first }
 {
-    let width_first = block.width_first;
-    if width_first {
-        return 2 * block.stage;
+    match first {
+        Direction::Length => Direction::Width,
+        Direction::Width => Direction::Length,
     }
-    2 * block.stage - 1
+}
+
+// The number of the block of a stage and a direction of first cuts, and of the block without a cut.
+fn number(stage: usize, first: Direction) -> usize
+    requires { stage ≤ most_limit }
+    ensures { result ≡ block_number stage first }
+{
+    match first {
+        Direction::Length => (2 * stage).saturating_sub(1),
+        Direction::Width => 2 * stage,
+    }
 }
 
 // The block of a number: the odd ones have length cuts first.
 fn block_of(n: usize) -> Block
     requires { n ≤ 2 * most_limit }
-    ensures { Numbered result × (block_number result.stage (first_of result) ≡ n) }
+    ensures { Numbered result × (block_number result.stage result.first ≡ n) }
 {
     if n % 2 == 0 {
-        return Block {
+        Block {
             stage: n / 2,
-            width_first: true,
-        };
-    }
-    Block {
-        stage: n / 2 + 1,
-        width_first: false,
-    }
-}
-
-// The number of the block with one stage fewer, whose first cuts go in the other direction.
-fn source_number(block: Block) -> usize
-    requires { Numbered block × (1 ≤ block.stage) }
-    ensures { result ≡ block_number (block.stage - 1) (other (first_of block)) }
-{
-    let stage = block.stage - 1;
-    let width_first = block.width_first;
-    if width_first {
-        if stage == 0 {
-            return 0;
+            first: Direction::Width,
         }
-        return 2 * stage - 1;
+    } else {
+        Block {
+            stage: n / 2 + 1,
+            first: Direction::Length,
+        }
     }
-    2 * stage
 }
 
 // The line of cells that ends at the cell of an entry, at word `at`. Shares are states of one digit, of which cuts read no marks.
@@ -70,13 +65,12 @@ fn line_to(positions: &[u16], at: usize, index: usize, stride: usize) -> Line
     requires { HalfReady positions.now 1 index × (index * stride ≤ at) }
     ensures { LineTo positions.now at index stride result }
 {
-    let half_end = half(positions, 1, index);
     Line {
-        index: index,
-        half_end: half_end,
-        at: at,
+        index,
+        half_end: half(positions, 1, index),
+        at,
         base: at - index * stride,
-        stride: stride,
+        stride,
         skip: 0,
     }
 }
@@ -101,39 +95,48 @@ fn fill_cell(
     let a = i / shape.columns;
     let b = i % shape.columns;
     let cells = shape.length_count * shape.columns;
-    let at = (number(block) * cells + i) * words;
-    if a == 0 {
-        set_run(table, at, words, 0);
-        return flat;
-    }
-    if b == 0 {
+    let at = (number(block.stage, block.first) * cells + i) * words;
+    if a == 0 || b == 0 {
         set_run(table, at, words, 0);
         return flat;
     }
     if block.stage == 0 {
-        let l = widen(normal_lengths[a]);
-        let w = widen(normal_widths[b]);
+        let l = u32::from(normal_lengths[a]);
+        let w = u32::from(normal_widths[b]);
         return make_uncut(table, pieces, shape, at, l, w, flat);
     }
-    let source = (source_number(block) * cells + i) * words;
-    let width_first = block.width_first;
-    if width_first {
-        let line = line_to(normal_widths, at, b, words);
-        let rest = &floors[1021..];
-        let above = at - shape.stride;
-        return make_later(table, normal_widths, rest, line, source, above, words, flat);
+    let source = (number(block.stage - 1, other(block.first)) * cells + i) * words;
+    match block.first {
+        Direction::Length => {
+            let line = line_to(normal_lengths, at, a, shape.stride);
+            let narrower = at - words;
+            make_later(
+                table,
+                normal_lengths,
+                floors,
+                line,
+                source,
+                narrower,
+                words,
+                flat,
+            )
+        }
+        Direction::Width => {
+            let line = line_to(normal_widths, at, b, words);
+            let shorter = at - shape.stride;
+            let rest = &floors[1021..];
+            make_later(
+                table,
+                normal_widths,
+                rest,
+                line,
+                source,
+                shorter,
+                words,
+                flat,
+            )
+        }
     }
-    let line = line_to(normal_lengths, at, a, shape.stride);
-    make_later(
-        table,
-        normal_lengths,
-        floors,
-        line,
-        source,
-        at - words,
-        words,
-        flat,
-    )
 }
 
 // A block, cell after cell.
@@ -183,7 +186,7 @@ pub fn fill_blocks(
     ensures { StagesMade (job_in shape pieces.now) (listed_weight pieces.now) normal_lengths.now normal_widths.now shape limit table.old table.new }
 {
     let blocks = 2 * limit + 1;
-    let mut flat: usize = 0;
+    let mut flat = 0;
     for n in 0..blocks {
         let block = block_of(n);
         flat = fill_block(

@@ -1,19 +1,11 @@
 // One cell of a block by its states: it starts from the cells before it, or from the other direction's block with one stage fewer,
 // inherits what they list, takes the pieces of exactly its size or the cuts of one side, and lists its flagged states.
-ghost use Rattle.std.specs.Prelude.{◌≡◌, max};
 ghost use Rattle.cutting.specs.Listed.{listed_weight};
 ghost use Rattle.state_cells.specs.Places.{job_in};
 ghost use Rattle.stage_fill.specs.Cells.{UncutReady, UncutSteps, LaterReady, LaterSteps};
 
 use state_cells::{Shape, begin, finish, inherit, place_pieces};
 use state_joins::{Line, cut};
-
-// The state from which on the figures of this cell too are the same: past every flagged one.
-fn further(flat: usize, top: usize) -> usize
-    ensures { result ≡ max flat top }
-{
-    if flat < top { top } else { flat }
-}
 
 // A cell without a cut, of the size l by w: what the cells before it in length and in width have, and the pieces of its size.
 pub fn make_uncut(
@@ -37,7 +29,7 @@ pub fn make_uncut(
     top = inherit(table, at, shorter, narrower, words, top);
     top = place_pieces(table, pieces, &blocks, shape, at, l, w, top);
     finish(table, 0, at, shorter, narrower, words, top);
-    further(flat, top)
+    flat.max(top)
 }
 
 // A cell that takes the cuts along a line: it starts as the greater of its source, the same cell with one stage fewer, and of the cell
@@ -64,5 +56,5 @@ pub fn make_later(
     top = inherit(table, at, along, across, words, top);
     top = cut(table, positions, floors, &blocks, 0, words, line, top);
     finish(table, 0, at, along, across, words, top);
-    further(flat, top)
+    flat.max(top)
 }

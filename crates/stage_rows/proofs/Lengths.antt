@@ -1,5 +1,5 @@
 -- A length-first block: a row from its source's and the row before, its length cuts, row after row, and its figures.
-use Rattle.stage_rows.proofs.Prelude.{◌≡◌, refl, ◌∙◌, ap, List, ℕ, suc, ◌+◌, ◌-◌, ◌*◌, ◌≤◌, ◌<◌, max, ℕ_discrete, arith, below_more, leb, length, get_or, Length, Width, Job, InTableRange, Positions, Run, HalfReady, Half, block_at, cell_before, outside_none, half_cuts, half_ready, half_next, entry_side, plain_order, sided, sided_joins, block_prior, block_ceiling, block_complete, Entries, LengthsTaken, Joins, Rows, ceiling, LengthsReady, joins_more, positions_entries, side_taken, cut_low, cut_taken, each, GreaterReady, LengthsLent, LengthRow, LengthBlock}
+use Rattle.stage_rows.proofs.Prelude.{◌≡◌, refl, ◌∙◌, ap, List, ℕ, suc, ◌+◌, ◌-◌, ◌*◌, ◌≤◌, ◌<◌, max, ℕ_discrete, arith, below_more, leb, length, get_or, Length, Width, Job, InTableRange, Positions, Run, Half, block_at, cell_before, outside_none, half_cuts, half_next, entry_side, plain_order, sided, sided_joins, block_prior, block_ceiling, block_complete, Entries, LengthsTaken, Joins, Rows, ceiling, LengthsReady, joins_more, positions_entries, side_taken, cut_low, cut_taken, each, GreaterReady, LengthsLent, LengthRow, LengthBlock}
 
 -- a row keeps what it has become while the words up to its end are as they were
 length_same : {normal_lengths floors : List ℕ} {columns source at a : ℕ} {old new new' : List ℕ} → LengthRow normal_lengths floors columns source at a old new → ((i : ℕ) → i < at + a * columns + columns → get_or new' i 0 ≡ get_or new i 0)
@@ -115,10 +115,7 @@ module _ {normal_lengths floors : List ℕ} {rows columns source at a from : ℕ
   prior_low : (b : ℕ) → b < columns → get_or t0 (source + a * columns + b) 0 ≤ ceiling
   prior_low b h = omega (arith, source_same b h, lent.source_low a b ha h, (lent.axis.side a ha).0)
 
-  -- what the search for the half asks
-  pub half_asked : HalfReady normal_lengths from a
-  half_asked = half_ready normal_lengths floors rows lent.axis from a fill.half_from fill.half_to ha fill.halves
-
+  -- what the row asks to start from its source and the row before
   pub start_ready : GreaterReady t0 start (source + a * columns) (start - columns) columns
   start_ready = record {
     first_before = omega (arith, lent.apart, length_end);

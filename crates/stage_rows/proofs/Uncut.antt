@@ -1,26 +1,5 @@
 -- The block without a cut: a row gathered from its units, its pieces, row after row, and its figures.
-use Rattle.stage_rows.proofs.Prelude.{◌≡◌, refl, sym, ◌∙◌, ap, List, ℕ, ◌+◌, ◌-◌, ◌*◌, ◌≤◌, ◌<◌, max, ℕ_discrete, arith, below_more, leb, leb→le, le→leb, length, get_or, set, get_or-set_same, get_or-set_other, Direction, Length, Width, upright, Job, InTableRange, listed_weight, table_lies, TableSize, size_job, Positions, Run, block_at, cell_before, outside_none, plain_order, singles, block_larger, block_ceiling, block_uncut, block_single, Raised, Pieces, Entries, Spread, Rows, ceiling, Capped, RowReady, WidthsReady, positions_entries, each, Rising, Gathered, UncutRow, UncutLent, UncutCells, UncutBlock}
-
--- no word gathered yet, and one more
-pub gathered_none : {normal_widths unit xs : List ℕ} {start : ℕ} → Gathered normal_widths 1 start unit xs xs
-gathered_none {xs = xs} {start = start} = record { here = λ b l h. absurd (omega arith); rest = outside_none (start + 1) (start + 1) xs }
-
-pub gathered_more : {normal_widths unit old table : List ℕ} {start b x v : ℕ} → 1 ≤ b → start + b < length table → x ≡ get_or normal_widths b 0 → v ≡ max (get_or unit x 0) (get_or table (start + (b - 1)) 0)
-    → Gathered normal_widths b start unit old table → Gathered normal_widths (b + 1) start unit old (set table (start + b) v)
-gathered_more {normal_widths} {unit} {old} {table} {start} {b} {x} {v} lb room e f w = record {
-  here = λ i l h. here i l h (ℕ_discrete i b);
-  rest = record { before = λ i h. kept i (omega arith) ∙ w.rest.before i h; after = λ i h. kept i (omega arith) ∙ w.rest.after i (omega arith) };
-}
-  where
-    new : List ℕ
-    new = set table (start + b) v
-
-    kept : (i : ℕ) → (i ≡ start + b → ⊥) → get_or new i 0 ≡ get_or table i 0
-    kept i n = get_or-set_other table (start + b) i v 0 n
-
-    here : (i : ℕ) → 1 ≤ i → i < b + 1 → Dec (i ≡ b) → get_or new (start + i) 0 ≡ max (get_or unit (get_or normal_widths i 0) 0) (get_or new (start + (i - 1)) 0)
-    here i l h (yes z) = rw (z, ← e) (omega (arith, get_or-set_same table (start + b) v 0 room, kept (start + (b - 1)) (λ q. omega arith)))
-    here i l h (no z) = omega (arith, kept (start + i) (λ q. omega arith), kept (start + (i - 1)) (λ q. omega arith), w.here i l (omega arith))
+use Rattle.stage_rows.proofs.Prelude.{◌≡◌, refl, sym, ◌∙◌, ap, List, ℕ, ◌+◌, ◌-◌, ◌*◌, ◌≤◌, ◌<◌, ℕ_discrete, arith, below_more, leb, leb→le, le→leb, length, get_or, Direction, Length, Width, upright, Job, InTableRange, listed_weight, table_lies, TableSize, size_job, Positions, Run, block_at, cell_before, outside_none, plain_order, singles, block_larger, block_ceiling, block_uncut, block_single, Raised, Pieces, Entries, Spread, Rows, ceiling, Capped, RowReady, WidthsReady, positions_entries, each, Rising, Gathered, UncutRow, UncutLent, UncutCells, UncutBlock}
 
 -- no word is more than two figures together
 pub gathered_low : {normal_widths unit old new : List ℕ} {columns side start b : ℕ} → WidthsReady normal_widths columns side start unit old → Gathered normal_widths b start unit old new → (i : ℕ) → i < b → get_or new (start + i) 0 ≤ 2 * ceiling
@@ -96,9 +75,6 @@ module _ {size : TableSize} {pieces normal_lengths normal_widths asked : List �
   module _ {a : ℕ} {old t0 : List ℕ} (block : Block a old t0) (la : 1 ≤ a) (ha : a < size.rows) where
     pub uncut_end : a * columns + columns ≤ size.rows * columns
     uncut_end = cell_before a size.rows columns ha
-
-    pub uncut_above : columns ≤ a * columns
-    uncut_above = omega (arith, cell_before 0 a columns la)
 
     module _ {tc : List ℕ} (copied : Run (λ j. get_or t0 (a * columns - columns + j) 0) (a * columns) columns t0 tc) where
       above_is : (b : ℕ) → b < columns → get_or tc (a * columns + b) 0 ≡ get_or t0 ((a - 1) * columns + b) 0

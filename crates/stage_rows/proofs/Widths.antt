@@ -1,5 +1,5 @@
 -- A width-first block: a row from its source's, row after row, and its figures.
-use Rattle.stage_rows.proofs.Prelude.{◌≡◌, refl, sym, ◌∙◌, ap, List, ℕ, suc, ◌+◌, ◌-◌, ◌*◌, ◌≤◌, ◌<◌, ℕ_discrete, arith, below_more, leb, length, get_or, set, length-set, get_or-set_same, get_or-set_other, Length, Width, Job, InTableRange, Positions, Outside, block_at, cell_before, outside_none, entry_side, plain_order, sided, sided_joins, block_prior, block_ceiling, block_complete, Entries, Spread, Widened, Rows, ceiling, Capped, Laid, WidthsReady, half_found, positions_entries, side_taken, push_taken, each, WidenReady, WidenedRow, WidthsLent, WidthBlock}
+use Rattle.stage_rows.proofs.Prelude.{◌≡◌, refl, sym, ◌∙◌, ap, List, ℕ, suc, ◌+◌, ◌-◌, ◌*◌, ◌≤◌, ◌<◌, ℕ_discrete, arith, below_more, leb, get_or, set, get_or-set_other, Length, Width, Job, InTableRange, Positions, Outside, block_at, cell_before, outside_none, entry_side, plain_order, sided, sided_joins, block_prior, block_ceiling, block_complete, Entries, Spread, Widened, Rows, Laid, half_found, positions_entries, side_taken, push_taken, each, WidenReady, WidenedRow, WidthsLent, WidthBlock}
 
 -- a row whose source's words stand at their units
 module _ {normal_widths unit laid table : List ℕ} {columns side source start : ℕ} (ready : WidenReady normal_widths columns side source start unit table) (spread : Spread normal_widths source columns table unit laid) where
@@ -10,18 +10,7 @@ module _ {normal_widths unit laid table : List ℕ} {columns side source start :
   abbrev begun : List ℕ
   begun = set table start (get_or laid 0 0)
 
-  -- it can take its width cuts
-  pub push_ready : length laid ≡ length unit → WidthsReady normal_widths columns side start laid begun
-  push_ready same = record {
-    laid = record { entries = row.entries; side_low = row.side_low; units = omega (arith, row.units); room = omega (arith, row.room, length-set table start (get_or laid 0 0)); capped = capped };
-    first = sym (get_or-set_same table start (get_or laid 0 0) 0 (omega (arith, row.room, row.entries.some)));
-    units_low = λ b h. omega (arith, spread.here b h, ready.source_low b h);
-  }
-    where
-      capped : Capped laid
-      capped i = spread.low i (2 * ceiling) (λ b h. omega (arith, ready.source_low b h, row.entries.within b h, row.side_low)) (row.capped i)
-
-  -- it has taken them
+  -- a row that has taken its width cuts
   pub widened_row : {new : List ℕ} → Widened normal_widths columns start laid begun new → WidenedRow normal_widths columns source start table new × Outside start (start + columns) table new
   widened_row w = (
     record { grown = λ b h. omega (arith, spread.here b h, w.grown b h); cuts = w.cuts; low = λ f joins base. w.low f joins (λ b h. omega (arith, spread.here b h, base b h)) },
@@ -54,13 +43,6 @@ module _ {normal_widths : List ℕ} {rows columns side source at a : ℕ} {old m
 
   source_same : (b : ℕ) → b < columns → get_or mid (source + a * columns + b) 0 ≡ get_or old (source + a * columns + b) 0
   source_same b h = block.rest.before (source + a * columns + b) (omega (arith, lent.apart, width_row))
-
-  pub widen_ready : {unit : List ℕ} → length mid ≡ length old → length unit ≡ 1021 → Capped unit → WidenReady normal_widths columns side (source + a * columns) (at + a * columns) unit mid
-  widen_ready same units capped = record {
-    laid = record { entries = lent.entries; side_low = lent.side_low; units = omega (arith, lent.side_low); room = omega (arith, lent.room, width_row); capped = capped };
-    apart = omega (arith, lent.apart, width_row);
-    source_low = λ b h. omega (arith, source_same b h, lent.source_low a b ha h);
-  }
 
   pub widths_more : {new : List ℕ} → WidenedRow normal_widths columns (source + a * columns) (at + a * columns) mid new → Outside (at + a * columns) (at + a * columns + columns) mid new
       → WidthBlock normal_widths (a + 1) columns source at old new

@@ -86,8 +86,8 @@ fn fill_uncut(
         let start = a * columns;
         copy(table, start - columns, start, columns);
         let row = Row {
-            start: start,
-            columns: columns,
+            start,
+            columns,
             length: normal_lengths[a],
             width: size.width,
             count: size.count,
@@ -121,7 +121,7 @@ fn fill_lengths(
     let columns = size.columns as usize;
     let rows = size.rows as usize;
     set_run(table, at, columns, 0);
-    let mut half_end: usize = 1;
+    let mut half_end = 1;
     for a in 1..rows {
         half_end = half(normal_lengths, half_end, a);
         let row = a * columns;
@@ -181,17 +181,6 @@ fn fill_widths(table: &mut [u64], normal_widths: &[u16], size: TableSize, source
     }
 }
 
-// The number of the length-first block of a stage, and of the block without a cut.
-fn length_number(stage: usize) -> usize
-    requires { stage ≤ most_limit }
-    ensures { result ≡ block_number stage Length }
-{
-    if stage == 0 {
-        return 0;
-    }
-    2 * stage - 1
-}
-
 // The staged table of pieces and a limit where the capacity is 0: its words are the blocks' figures, and the rest is as it was.
 pub fn fill(
     size: TableSize,
@@ -210,7 +199,7 @@ pub fn fill(
     for below in 0..limit {
         let at = (2 * below + 1) * cells;
         fill_lengths(table, normal_lengths, floors, size, at - cells, at);
-        let source = length_number(below) * cells;
+        let source = (2 * below).saturating_sub(1) * cells;
         fill_widths(table, normal_widths, size, source, at + cells);
     }
 }

@@ -1,6 +1,7 @@
 -- What the staged bound call promises, from the verdicts of job, weights and limit and from the staged bound of an accepted job.
-use Rattle.staged_bound.proofs.Prelude.{◌≡◌, refl, sym, ◌∙◌, ap, subst, true, false, List, [], ◌∷◌, ℕ, ◌≤◌, arith, Direction, Length, Width, Sides, rect_of, sides_of, most_limit, Job, SolidKinds, InRange, widened, capacity, at_full_demand, ordered, members, pieces, block, staged_bound, listed_weight, pieces_job, PieceArray, range_solid, widened_solid, staged_finer, stages_finer, capacity_less, block_figure, block_recursion, block_floor, block_most, staged_under_most, staged_under_earned, staged_most, staged_holds, staged_more, staged_less, staged_ceiling, normal_listed, next, first_refusal, outcome_by, Refusal, StageLimit, Checked, Passed, Refused, Choices, JobRecord, outside, job_of, block_job, weight_in, Accepted, passed_both, weights_passed, accepted_both, accepted_in_range, Taken, limit_check, limit_by, limit_inside, Memory, answer_by, wide_job, block_capacity, accept_verdict, report_values, bound_outcome, BoundReport, BoundAnswer, answered_behind, pieces_range, range_taken, staged_checks, StagedLeaves, limit_verdict, staged_verdict, staged_block_report, staged_answer, StagedHolds, StagedPromises, Stageable, Staged}
-use Rattle.promises.specs.declared.BoundAnswer.TheVariants as answer
+use Rattle.staged_bound.proofs.Prelude.{◌≡◌, refl, sym, ◌∙◌, ap, subst, false, List, [], ◌∷◌, ℕ, ◌≤◌, arith, Direction, Length, Width, Sides, rect_of, sides_of, most_limit, Job, SolidKinds, InRange, widened, capacity, at_full_demand, ordered, members, pieces, block, staged_bound, listed_weight, pieces_job, PieceArray, range_solid, widened_solid, staged_finer, stages_finer, capacity_less, block_figure, block_recursion, block_floor, block_most, staged_under_most, staged_under_earned, staged_most, staged_holds, staged_more, staged_less, staged_ceiling, normal_listed, first_refusal, Refusal, StageLimit, Choices, JobRecord, outside, job_of, block_job, weight_in, Accepted, passed_both, weights_passed, accepted_both, accepted_in_range, Taken, limit_check, limit_inside, Memory, answer_by, wide_job, block_capacity, accept_verdict, bound_values, bound_outcome, BoundReport, pieces_range, range_taken, staged_checks, StagedLeaves, limit_verdict, staged_verdict, staged_block_report, staged_answer, StagedHolds, StagedPromises, Stageable, Staged, Ok, Err, passed, Checked, Answer, Acceptance, acceptance_of, refused_both, Bool, refuse_when, check_last, passed_false}
+use Rattle.refusal.proofs.Results.{before_refuses, before_passes, refused_answer, said_by, value_answered}
+use Rattle.std.specs.Result.{IsErrAnd}
 use Rattle.staged_bound.proofs.Listed.{pieces_staged}
 
 -- the staged bound of the full demands is no less: its blocks are the same, and its capacity is no less
@@ -36,16 +37,20 @@ staged_held J weight n h = record {
   full_demand = staged_full J (range_solid J h) weight n;
 }
 
-said_by : (v : Checked) (b : BoundReport) → bound_outcome (answer_by v b) ≡ outcome_by v (report_values b)
-said_by Passed b = refl
-said_by (Refused r) b = refl
+-- the check of the limit
+module _ (n : ℕ) {b : Bool} {a : Checked} (h : b ≡ outside 1 most_limit n) (e : a ≡ refuse_when b StageLimit) where
+  pub limited : a ≡ first_refusal (limit_check n ∷ [])
+  limited = check_last _ _ (e ∙ ap (λ b. refuse_when b StageLimit) h)
+
+  pub limit_passed : a ≡ passed → outside 1 most_limit n ≡ false
+  limit_passed p = sym h ∙ passed_false _ _ (sym e ∙ p)
 
 module _ (s : List ℕ) (choices : Choices) (ws : List ℕ) (n : ℕ) (old : Memory) where
   -- the answer and the memory give the rest
-  promised : {new : Memory} (r : BoundAnswer) → r ≡ staged_answer s choices ws n old → StagedLeaves (limit_verdict s choices ws n) (wide_job s choices) (weight_in ws) n (block_capacity s choices ws) old new → StagedPromises s choices ws n old new r
+  promised : {new : Memory} (r : Answer BoundReport) → r ≡ staged_answer s choices ws n old → StagedLeaves (limit_verdict s choices ws n) (wide_job s choices) (weight_in ws) n (block_capacity s choices ws) old new → StagedPromises s choices ws n old new r
   promised r e l = record {
     answers = e;
-    outcome = ap (λ x. bound_outcome x) e ∙ said_by (staged_verdict s choices ws n old) (staged_block_report s choices ws n);
+    outcome = ap (λ x. bound_outcome x) e ∙ said_by bound_values (staged_verdict s choices ws n old) (staged_block_report s choices ws n);
     memory = l;
     exact = λ b f. held b (sym e ∙ f);
     recursion = block_recursion (wide_job s choices) (weight_in ws);
@@ -55,31 +60,31 @@ module _ (s : List ℕ) (choices : Choices) (ws : List ℕ) (n : ℕ) (old : Mem
     floor = λ a. block_floor (wide_job s choices) (weight_in ws) (widened_solid (block_job s choices) (range_solid (block_job s choices) (accepted_in_range s choices ws a)));
   }
     where
-      held : (b : BoundReport) → staged_answer s choices ws n old ≡ answer.Answered b → StagedHolds (block_job s choices) (weight_in ws) n b.capacity b.bound
+      held : (b : BoundReport) → staged_answer s choices ws n old ≡ Ok b → StagedHolds (block_job s choices) (weight_in ws) n b.capacity b.bound
       held b f =
-          let w = answered_behind (staged_verdict s choices ws n old) (staged_block_report s choices ws n) (sym f) in
+          let w = value_answered _ _ f in
           let v = passed_both (limit_verdict s choices ws n) (first_refusal (staged_checks (wide_job s choices) n (block_capacity s choices ws) old)) w.0 in
           let u = passed_both (accept_verdict s choices ws) (first_refusal (limit_check n ∷ [])) v.0 in
           rw w.1 (staged_held (block_job s choices) (weight_in ws) n (accepted_in_range s choices ws u.0))
 
   -- a refusal before the storage checks changes nothing
-  refused : (r : Refusal) → limit_verdict s choices ws n ≡ Refused r → StagedPromises s choices ws n old old (answer.Refused r)
-  refused r v = promised (answer.Refused r) (sym (ap (λ v. answer_by (next v (first_refusal (staged_checks (wide_job s choices) n (block_capacity s choices ws) old))) (staged_block_report s choices ws n)) v))
-      (rw v (record { lengths = refl; widths = refl; table = refl }))
+  refused : {x : Refusal} {r : Answer BoundReport} → limit_verdict s choices ws n ≡ Err x → IsErrAnd r (λ y. y ≡ x) → StagedPromises s choices ws n old old r
+  refused {r = r} v p = promised r (refused_answer _ _ _ (before_refuses _ _ v) p) (rw v (record { lengths = refl; widths = refl; table = refl }))
 
   -- the job or its weights are refused
-  pub early : (r : Refusal) → accept_verdict s choices ws ≡ Refused r → StagedPromises s choices ws n old old (answer.Refused r)
-  early r v = refused r (ap (λ v. next v (first_refusal (limit_check n ∷ []))) v)
+  pub early : {a : Answer Acceptance} {x : Refusal} {r : Answer BoundReport} → a ≡ acceptance_of s choices ws → a ≡ Err x → IsErrAnd r (λ y. y ≡ x) → StagedPromises s choices ws n old old r
+  early e f p = refused (before_refuses _ _ (refused_both s choices ws e f)) p
 
   -- the limit is
-  pub limit_refused : Accepted s choices ws → outside 1 most_limit n ≡ true → StagedPromises s choices ws n old old (answer.Refused StageLimit)
-  limit_refused v e = refused StageLimit (ap (λ v. next v (first_refusal (limit_check n ∷ []))) v ∙ limit_by n true e)
+  pub limit_refused : {a : Checked} {x : Refusal} {r : Answer BoundReport} → Accepted s choices ws → a ≡ first_refusal (limit_check n ∷ []) → a ≡ Err x → IsErrAnd r (λ y. y ≡ x) → StagedPromises s choices ws n old old r
+  limit_refused v e f p = refused (before_passes _ _ v ∙ sym e ∙ f) p
 
   -- all are accepted
-  pub accepted : Accepted s choices ws → outside 1 most_limit n ≡ false → {new : Memory} (r : BoundAnswer) → Staged (wide_job s choices) (weight_in ws) n (block_capacity s choices ws) old new r → StagedPromises s choices ws n old new r
-  accepted v e {new} r b =
-      let u : limit_verdict s choices ws n ≡ Passed = ap (λ v. next v (first_refusal (limit_check n ∷ []))) v ∙ limit_by n false e in
-      promised r (b.answer ∙ sym (ap (λ v. answer_by (next v (first_refusal (staged_checks (wide_job s choices) n (block_capacity s choices ws) old))) (staged_block_report s choices ws n)) u)) (rw u b.memory)
+  pub accepted : {a : Checked} → Accepted s choices ws → a ≡ first_refusal (limit_check n ∷ []) → a ≡ passed → {new : Memory} (r : Answer BoundReport)
+      → Staged (wide_job s choices) (weight_in ws) n (block_capacity s choices ws) old new r → StagedPromises s choices ws n old new r
+  accepted v e f {new} r b =
+      let u : limit_verdict s choices ws n ≡ passed = before_passes _ _ v ∙ sym e ∙ f in
+      promised r (b.answer ∙ sym (ap (λ v. answer_by v (staged_block_report s choices ws n)) (before_passes _ _ u))) (rw u b.memory)
 
 -- what the staged bound of the pieces asks, and what it says of the job's block
 module _ (s : List ℕ) (choices : Choices) (ws : List ℕ) {j : JobRecord} {q : ℕ} (t : Taken s choices ws j q) (n : ℕ) where
@@ -90,7 +95,7 @@ module _ (s : List ℕ) (choices : Choices) (ws : List ℕ) {j : JobRecord} {q :
       record { in_range = pieces_range (job_of j) (weight_in ws) count pieces a (range_taken s choices ws t); most = omega (arith, k.1, t.capacity_is); limit = limit_inside n l } in
       subst (λ p. Stageable (pieces_job (rect_of p) count pieces) q n) (sym e) b
 
-  pub job_staged : {plate : Sides} {count : ℕ} {pieces : List ℕ} {old new : Memory} {r : BoundAnswer} → plate ≡ sides_of (widened (job_of j)).plate → PieceArray (widened (job_of j)) (weight_in ws) count pieces
+  pub job_staged : {plate : Sides} {count : ℕ} {pieces : List ℕ} {old new : Memory} {r : Answer BoundReport} → plate ≡ sides_of (widened (job_of j)).plate → PieceArray (widened (job_of j)) (weight_in ws) count pieces
       → Staged (pieces_job (rect_of plate) count pieces) (listed_weight pieces) n q old new r → Staged (wide_job s choices) (weight_in ws) n (block_capacity s choices ws) old new r
   job_staged {plate} {count} {pieces} {old} {new} {r} e a b =
       let c = pieces_staged (widened (job_of j)) (weight_in ws) count pieces a n q old new r (subst (λ p. Staged (pieces_job (rect_of p) count pieces) (listed_weight pieces) n q old new r) e b) in

@@ -1,6 +1,6 @@
 -- What is answered and left in memory for the array of a job's pieces is the job's own; and the words of the table from which the bound
 -- is read.
-use Rattle.staged_bound.proofs.Prelude.{◌≡◌, refl, sym, ◌∙◌, ap, ap₂, subst, List, [], ◌∷◌, ℕ, ◌+◌, ◌-◌, ◌*◌, ◌≤◌, max, mul-le-mul_right, arith, ltb, leb, length, get_or, Direction, Length, Width, most_wide_figure, Job, block, InTableRange, size_in, price_in, listed_weight, pieces_job, PieceArray, table_solid, positions_some, block_floor, listed_block, first_refusal, Checked, Passed, Refused, TableShort, position_count, position, words_needed, Kept, block_number, staged_words, StagedFigures, plain_order, block_low, block_one, Memory, list_check, list_after, answer_by, BoundAnswer, report_is, last_position, word_last, words_some, same_positions, same_count, same_position, same_words, StagedAfter, staged_checks, staged_report, Staged}
+use Rattle.staged_bound.proofs.Prelude.{◌≡◌, refl, sym, ◌∙◌, ap, ap₂, subst, List, [], ◌∷◌, ℕ, ◌+◌, ◌-◌, ◌*◌, ◌≤◌, max, mul-le-mul_right, arith, ltb, length, get_or, Direction, Length, Width, Job, block, InTableRange, size_in, price_in, listed_weight, pieces_job, PieceArray, table_solid, positions_some, block_floor, listed_block, first_refusal, TableShort, position_count, position, words_needed, Kept, block_number, staged_words, StagedFigures, Memory, list_check, list_after, answer_by, report_is, last_position, word_last, words_some, same_positions, same_count, same_position, same_words, StagedAfter, staged_checks, staged_report, Staged, Ok, Err, Checked, Answer, BoundReport}
 
 -- the last word of a block holds the plate's figure
 pub block_last : (J : Job) (weight : ℕ → ℕ) → InTableRange J → (n q : ℕ) (xs : List ℕ) → StagedFigures J weight n q xs → (d : Direction) → get_or xs (block_number n d * words_needed J q + (words_needed J q - 1)) 0 ≡ block J weight n d J.plate.0 J.plate.1 q
@@ -13,10 +13,6 @@ block_last J weight h n q xs f d =
     (f n d (p - 1) (r - 1) q (omega arith) (omega arith) (omega arith) (omega arith)
     ∙ ap₂ (λ l w. block J weight n d l w q) (last_position J Length) (last_position J Width)
     ∙ sym (block_floor J weight (table_solid J h) n d J.plate.0 J.plate.1 q (omega arith) (omega arith)))
-
--- two such figures can be compared
-pub block_small : (J : Job) (weight : ℕ → ℕ) → InTableRange J → (n : ℕ) (d : Direction) (q : ℕ) → block J weight n d J.plate.0 J.plate.1 q ≤ most_wide_figure
-block_small J weight h n d q = omega (arith, block_one J weight n d J.plate.0 J.plate.1 q, block_low J leb weight plain_order h n d J.plate.0 J.plate.1 q h.plate_length.1, h.plate_width.1)
 
 -- the words of one block among those of all
 module _ (J : Job) (n q : ℕ) (some : 1 ≤ n) where
@@ -57,14 +53,14 @@ module _ (J : Job) (weight : ℕ → ℕ) (n : ℕ) (pieces : List ℕ) (array :
     lists = first_refusal (list_check J (length old.lengths) (length old.widths) ∷ [])
 
     same_table : (v : Checked) → StagedAfter v N (listed_weight pieces) limit q old.table new.table → StagedAfter v J weight limit q old.table new.table
-    same_table Passed t = (same_figures new.table t.0, subst (λ k. Kept k old.table new.table) all_same t.1)
-    same_table (Refused r) t = t
+    same_table (Ok _) t = (same_figures new.table t.0, subst (λ k. Kept k old.table new.table) all_same t.1)
+    same_table (Err r) t = t
 
     same_report : staged_report N (listed_weight pieces) limit q ≡ staged_report J weight limit q
     same_report = report_is (ap₂ max (same_block limit Length J.plate.0 J.plate.1 q) (same_block limit Width J.plate.0 J.plate.1 q)) refl (same_count J weight n pieces array Length) (same_count J weight n pieces array Width)
 
     -- the whole answer is the job's
-    pub pieces_staged : (r : BoundAnswer) → Staged N (listed_weight pieces) limit q old new r → Staged J weight limit q old new r
+    pub pieces_staged : (r : Answer BoundReport) → Staged N (listed_weight pieces) limit q old new r → Staged J weight limit q old new r
     pieces_staged r b = record {
       answer = b.answer ∙ ap₂ answer_by same_checks same_report;
       memory = record {

@@ -1,23 +1,20 @@
 -- The staged bound call: its checks in the table's order, its answer with number and values, what it leaves in lists and table, and what
 -- the answered bound is. Where it says what the bound call says, it cites that call's definitions.
 -- docs/SCOPE.md: No more than so many stages.
-use Rattle.std.specs.Prelude.{◌≡◌, List, [], ◌∷◌, ℕ, ◌≤◌, max, length}
+use Rattle.std.specs.Prelude.{◌≡◌, List, [], ◌∷◌, ℕ, ◌≤◌, max, length, Ok}
 use Rattle.promises.specs.declared.Direction.TheVariants.{Length, Width}
 use Rattle.cutting.specs.Limits.{most_figure}
 use Rattle.cutting.specs.Job.{Job, capacity, at_full_demand, bound_of, normal_positions}
 use Rattle.cutting.specs.Promises.{FinerAmong, NormalSums}
 use Rattle.cutting.specs.Staged.{block, staged_under, staged_bound, OfStages, MostStaged, NoneStaged, NoneStagedFiner, StagedRecursion, StagedFloors, StagedFiguresMost}
-use Rattle.refusal.specs.Refusals.{Check, Outcome, next, first_refusal, by_check, outcome_by}
-use Rattle.promises.specs.declared.Checked.{Checked}
+use Rattle.refusal.specs.Refusals.{Answer, Check, Checked, Outcome, next, first_refusal, by_check, answer_by, outcome_by}
 use Rattle.promises.specs.declared.Choices.{Choices}
 use Rattle.job.specs.Weights.{block_job, weight_in, Accepted}
 use Rattle.stages.specs.Stages.{limit_check}
 use Rattle.table.specs.Table.{position_count, Kept}
 use Rattle.table.specs.Staged.{staged_words, StagedFigures}
 use Rattle.promises.specs.declared.BoundReport.{BoundReport}
-use Rattle.promises.specs.declared.BoundAnswer.{BoundAnswer}
-use Rattle.promises.specs.declared.BoundAnswer.TheVariants as answer
-use Rattle.bound.specs.Bound.{Memory, list_check, room_check, list_after, answer_by, wide_job, block_capacity, accept_verdict, report_values, bound_outcome}
+use Rattle.bound.specs.Bound.{Memory, list_check, room_check, list_after, wide_job, block_capacity, accept_verdict, bound_values, bound_outcome}
 
 -- check 20: a table shorter than (2n + 1) · p · r · (Q + 1), with the words needed
 abbrev pub blocks_room_check : Job → ℕ → ℕ → ℕ → Check
@@ -59,12 +56,12 @@ abbrev pub staged_block_report : List ℕ → Choices → List ℕ → ℕ → B
 staged_block_report s choices ws n = staged_report (wide_job s choices) (weight_in ws) n (block_capacity s choices ws)
 
 -- what it answers
-abbrev pub staged_answer : List ℕ → Choices → List ℕ → ℕ → Memory → BoundAnswer
+abbrev pub staged_answer : List ℕ → Choices → List ℕ → ℕ → Memory → Answer BoundReport
 staged_answer s choices ws n m = answer_by (staged_verdict s choices ws n m) (staged_block_report s choices ws n)
 
 -- the number and values that it answers
 abbrev pub staged_said : List ℕ → Choices → List ℕ → ℕ → Memory → Outcome
-staged_said s choices ws n m = outcome_by (staged_verdict s choices ws n m) (report_values (staged_block_report s choices ws n))
+staged_said s choices ws n m = outcome_by (staged_verdict s choices ws n m) (bound_values (staged_block_report s choices ws n))
 
 -- what a staged bound m at the limit n and the capacity q is: the most that a guillotine tree of at most n stages and of weight at most q
 -- earns; no less than any tree of the job's kinds of at most n stages that keeps the demands earns; no less than any of these trees cut finer;
@@ -84,11 +81,11 @@ pub record StagedHolds (J : Job) (weight : ℕ → ℕ) (n q m : ℕ) : Type 0 w
 
 -- what the staged bound call promises of its answer and of the memory that it is lent: as the bound call does; where job and weights are
 -- accepted, every figure of a block is the most that a tree of the block earns there
-pub record StagedPromises (s : List ℕ) (choices : Choices) (ws : List ℕ) (n : ℕ) (old new : Memory) (r : BoundAnswer) : Type 0 where
+pub record StagedPromises (s : List ℕ) (choices : Choices) (ws : List ℕ) (n : ℕ) (old new : Memory) (r : Answer BoundReport) : Type 0 where
   pub answers : r ≡ staged_answer s choices ws n old
   pub outcome : bound_outcome r ≡ staged_said s choices ws n old
   pub memory : StagedLeaves (limit_verdict s choices ws n) (wide_job s choices) (weight_in ws) n (block_capacity s choices ws) old new
-  pub exact : (b : BoundReport) → r ≡ answer.Answered b → StagedHolds (block_job s choices) (weight_in ws) n b.capacity b.bound
+  pub exact : (b : BoundReport) → r ≡ Ok b → StagedHolds (block_job s choices) (weight_in ws) n b.capacity b.bound
   pub recursion : StagedRecursion (wide_job s choices) (weight_in ws)
   pub normal : NormalSums (wide_job s choices)
   pub accepted : Accepted s choices ws → StagedHolds (block_job s choices) (weight_in ws) n (block_capacity s choices ws) (staged_bound (block_job s choices) (weight_in ws) n)

@@ -12,11 +12,13 @@ ghost use Rattle.staged_bound.specs.Staged.{StagedPromises};
 ghost use Rattle.staged_bound.specs.Clauses.{Stageable, Staged};
 
 use cutting::Sides;
+use job::Acceptance;
 use pieces::{list_pieces, plate_of};
-use promises::{BoundAnswer, BoundReport, Checked, Choices, Refusal};
+use promises::{BoundReport, Choices, Refusal};
+use refusal::refuse_if;
 use stages::limit_outside;
-use storage::{Layout, lay_out, words};
-use table::{TableSize, greater};
+use storage::{Layout, lay_out};
+use table::TableSize;
 
 // The figures of pieces in every block up to a limit, into a table that is long enough: the fill for one share or for many.
 fn fill_table(
@@ -41,17 +43,17 @@ fn fill_table(
             floors,
             table,
         );
-        return;
+    } else {
+        stage_fill::fill(
+            size,
+            limit,
+            pieces,
+            normal_lengths,
+            normal_widths,
+            floors,
+            table,
+        );
     }
-    stage_fill::fill(
-        size,
-        limit,
-        pieces,
-        normal_lengths,
-        normal_widths,
-        floors,
-        table,
-    );
 }
 
 // The staged bound of pieces on a plate at a capacity and a limit: refusals 19 and 20, then the lists, the floors of both sides, the
@@ -66,7 +68,7 @@ pub fn bound_of_pieces(
     widths: &mut [u16],
     floors: &mut [u16],
     table: &mut [u64],
-) -> BoundAnswer
+) -> Result<BoundReport, Refusal>
     requires { Stageable (pieces_job (rect_of plate) count pieces.now) q limit × (length floors.old ≡ 2042) }
     ensures { Staged (pieces_job (rect_of plate) count pieces.now) (listed_weight pieces.now) limit q
         (lent lengths.old widths.old table.old)
@@ -74,29 +76,26 @@ pub fn bound_of_pieces(
 {
     let cell = (2 * (limit as u32) + 1) * ((q as u32) + 1);
     let room = table.len();
-    let layout = lay_out(plate, count, pieces, q, cell, lengths, widths, floors, room);
-    match layout {
-        Layout::Refused(r) => BoundAnswer::Refused(r),
-        Layout::Ready(size, all) => {
-            fill_table(
-                size,
-                limit,
-                pieces,
-                &lengths[..],
-                &widths[..],
-                &floors[..],
-                table,
-            );
-            let last = all - 1;
-            let before = last - words(size.rows, size.columns, (q as u32) + 1) as usize;
-            BoundAnswer::Answered(BoundReport {
-                bound: greater(table[before], table[last]),
-                capacity: q,
-                length_count: size.rows,
-                columns: size.columns,
-            })
-        }
-    }
+    let Layout { size, words } = lay_out(
+        plate, count, pieces, q, cell, lengths, widths, floors, room,
+    )?;
+    fill_table(
+        size,
+        limit,
+        pieces,
+        &lengths[..],
+        &widths[..],
+        &floors[..],
+        table,
+    );
+    let last = words - 1;
+    let before = last - storage::words(size.rows, size.columns, (q as u32) + 1) as usize;
+    Ok(BoundReport {
+        bound: table[before].max(table[last]),
+        capacity: q,
+        length_count: size.rows,
+        columns: size.columns,
+    })
 }
 
 // The staged bound of a job block, weights and a limit. An answered bound is exact: the most that a guillotine tree within the limit and
@@ -109,28 +108,20 @@ pub fn bound_staged(
     lengths: &mut [u16],
     widths: &mut [u16],
     table: &mut [u64],
-) -> BoundAnswer
+) -> Result<BoundReport, Refusal>
     ensures { StagedPromises block.now choices weights.now limit (lent lengths.old widths.old table.old)
         (lent lengths.new widths.new table.new) result }
 {
-    let accepted = job::accept(block, choices, weights);
-    let verdict = accepted.verdict;
-    if let Checked::Refused(r) = verdict {
-        return BoundAnswer::Refused(r);
-    }
-    if limit_outside(limit) {
-        return BoundAnswer::Refused(Refusal::StageLimit);
-    }
-    let record = accepted.job;
-    let plate = plate_of(record);
+    let Acceptance { job, capacity } = job::accept(block, choices, weights)?;
+    refuse_if(limit_outside(limit), Refusal::StageLimit)?;
     let mut pieces = [0u32; 640];
-    let count = list_pieces(record, weights, &mut pieces);
+    let count = list_pieces(job, weights, &mut pieces);
     let mut floors = [0u16; 2042];
     bound_of_pieces(
-        plate,
+        plate_of(job),
         count,
         &pieces,
-        accepted.capacity,
+        capacity,
         limit as usize,
         lengths,
         widths,
@@ -148,7 +139,7 @@ pub fn bound_staged_full_demand(
     lengths: &mut [u16],
     widths: &mut [u16],
     table: &mut [u64],
-) -> BoundAnswer
+) -> Result<BoundReport, Refusal>
     ensures { StagedPromises block.now (with_full_demand choices) weights.now limit (lent lengths.old widths.old table.old)
         (lent lengths.new widths.new table.new) result }
 {

@@ -1,107 +1,109 @@
 -- What the staged certificate promises, from the verdicts of the job, the weights, the limit and the plan and from the staged bound of an
 -- accepted job.
-use Rattle.staged_certificate.proofs.Prelude.{◌≡◌, refl, sym, ◌∙◌, ap, ap₂, true, false, List, [], ◌∷◌, ℕ, ◌≤◌, arith, most_limit, stages, Job, staged_bound, NoneStagedBetter, range_solid, any_on, staged_finer, staged_holds, next, first_refusal, Refusal, StageLimit, Checked, Passed, Refused, Choices, JobRecord, outside, job_of, block_job, weight_in, Accepted, passed_both, read_in_range, accepted_both, accepted_in_range, Taken, limit_check, limit_by, Report, plan_answer, JobPasses, tree_in, StagedAnswer, within_verdict, within_answer, staged_by, verdict_by, staged_tree, check_met, BoundReport, BoundAnswer, Memory, wide_job, block_capacity, accept_verdict, answered_behind, refused_behind, limit_verdict, staged_checks, staged_block_report, StagedLeaves, Staged, compared, handed_on, certificate_outcome, storage_verdict, Certificate, said_by, best_among, gap_among, handed_before, handed_after, handed_whole, staged_plan_verdict, certify_staged_verdict, staged_certificate, EarnsStaged, CertifyStagedPromises}
-use Rattle.promises.specs.declared.BoundAnswer.TheVariants as bound
-use Rattle.promises.specs.declared.Certificate.TheVariants as certificate
+use Rattle.staged_certificate.proofs.Prelude.{◌≡◌, refl, sym, ◌∙◌, ap, ap₂, List, [], ◌∷◌, ℕ, ◌≤◌, arith, Job, profit, staged_bound, NoneStagedBetter, range_solid, any_on, staged_finer, staged_holds, first_refusal, Refusal, Choices, JobRecord, job_of, block_job, weight_in, acceptance_of, Acceptance, passed_both, read_in_range, accepted_both, accepted_in_range, Taken, refused_both, limit_check, Report, JobPasses, drawn_is, within_verdict, within_answer, within_is, staged_tree, check_met, BoundReport, StagedReport, Memory, wide_job, block_capacity, accept_verdict, limit_verdict, staged_checks, staged_block_report, StagedLeaves, Staged, plan_profit, compared, certificate_outcome, Certificate, certificate_says, best_among, gap_among, value_of, staged_plan_verdict, certify_staged_verdict, staged_certificate, EarnsStaged, CertifyStagedPromises, Ok, Err, passed, Checked, Answer, verdict_of, value_answered, refusal_answered, refused_answer, given_answer, before_refuses, before_passes}
+use Rattle.std.specs.Result.{IsErrAnd}
 
 module _ (s : List ℕ) (choices : Choices) (ws : List ℕ) (n : ℕ) (kinds operands : List ℕ) where
   abbrev J : Job
   J = block_job s choices
 
-  -- the profit that the plan's answer reports, and the staged bound
-  abbrev profit : ℕ
-  profit = (plan_answer J kinds operands).report.profit
+  -- the profit of the plan's tree, and the staged bound
+  abbrev earned : ℕ
+  earned = plan_profit J kinds operands
 
   abbrev most : ℕ
   most = staged_bound J (weight_in ws) n
 
-  -- the tree of a plan that passed within the limit earns the plan's profit
-  drawn_within : JobPasses s choices → within_verdict J n kinds operands ≡ Passed → EarnsStaged J n kinds operands profit
-  drawn_within good w = let t = staged_tree J (read_in_range s choices good).kinds.1 n kinds operands w in (t.0, t.1, sym (ap (λ (r : Report). r.profit) t.2.own))
+  -- the tree of a plan that passed within the limit earns the plan's profit, and the report has it
+  module _ (good : JobPasses s choices) {r : StagedReport} (w : within_answer J n kinds operands ≡ Ok r) where
+    drawn : EarnsStaged J n kinds operands earned × (r.report.profit ≡ earned)
+    drawn =
+        let t = staged_tree J (read_in_range s choices good).kinds.1 n kinds operands r w in
+        let e = ap (λ u. profit J u) (drawn_is J kinds operands t.0 t.1.plan.drawn) in
+        ((t.0, t.1, e), ap (λ (r : Report). r.profit) t.2.own ∙ e)
 
   -- where no check refuses, it earns at most the staged bound, which no tree within the limit that keeps every demand passes
-  compares : (m : Memory) → certify_staged_verdict s choices ws n kinds operands m ≡ Passed → EarnsStaged J n kinds operands profit × (profit ≤ most) × NoneStagedBetter J n most
+  compares : (m : Memory) → certify_staged_verdict s choices ws n kinds operands m ≡ passed → EarnsStaged J n kinds operands earned × (earned ≤ most) × NoneStagedBetter J n most
   compares m p =
       let a = passed_both (staged_plan_verdict s choices ws n kinds operands) (first_refusal (staged_checks (wide_job s choices) n (block_capacity s choices ws) m)) p in
       let b = passed_both (limit_verdict s choices ws n) (within_verdict J n kinds operands) a.0 in
       let c = passed_both (accept_verdict s choices ws) (first_refusal (limit_check n ∷ [])) b.0 in
-      let t = drawn_within (accepted_both s choices ws c.0).0 b.1 in
+      let good = (accepted_both s choices ws c.0).0 in
+      let t = (drawn good (value_of _ (within_is J (read_in_range s choices good).kinds.1 n kinds operands ∙ b.1)).1).0 in
       let solid = range_solid J (accepted_in_range s choices ws c.0) in
       let none = staged_holds J solid (weight_in ws) n in
       (t, omega (arith, t.2, none t.0 (any_on J t.0 t.1.plan.drawn.on_plate) t.1.within t.1.plan.drawn.demands), (none, staged_finer J solid n most none))
 
   module _ (old : Memory) where
-    -- the storage's verdict, and the certificate where no check refuses
+    -- the storage's verdict
     abbrev stored : Checked
     stored = first_refusal (staged_checks (wide_job s choices) n (block_capacity s choices ws) old)
 
-    abbrev unrefused : Certificate
-    unrefused = compared profit most
-
     -- the answer and the memory give the rest
-    promised : {new : Memory} (c : Certificate) → c ≡ staged_certificate s choices ws n kinds operands old
-        → StagedLeaves (staged_plan_verdict s choices ws n kinds operands) (wide_job s choices) (weight_in ws) n (block_capacity s choices ws) old new → CertifyStagedPromises s choices ws n kinds operands old new c
-    promised c e l = record {
+    promised : {new : Memory} (r : Answer Certificate) → r ≡ staged_certificate s choices ws n kinds operands old
+        → StagedLeaves (staged_plan_verdict s choices ws n kinds operands) (wide_job s choices) (weight_in ws) n (block_capacity s choices ws) old new → CertifyStagedPromises s choices ws n kinds operands old new r
+    promised r e l = record {
       answers = e;
-      outcome = ap (λ x. certificate_outcome x) e ∙ said_by (certify_staged_verdict s choices ws n kinds operands old) profit most (λ p. (compares old p).1);
+      outcome = ap (λ x. certificate_outcome x) e ∙ certificate_says (certify_staged_verdict s choices ws n kinds operands old) earned most (λ p. (compares old p).1);
       memory = l;
       judged = (check_met s choices n kinds operands refl).1.1;
-      best = λ m f. best_among (EarnsStaged J n kinds operands) (NoneStagedBetter J n) (certify_staged_verdict s choices ws n kinds operands old) profit most (compares old) m (sym e ∙ f);
-      gap = λ m g f. gap_among (EarnsStaged J n kinds operands) (NoneStagedBetter J n) (certify_staged_verdict s choices ws n kinds operands old) profit most (compares old) m g (sym e ∙ f);
+      best = λ m f. best_among (EarnsStaged J n kinds operands) (NoneStagedBetter J n) (certify_staged_verdict s choices ws n kinds operands old) earned most (compares old) m (sym e ∙ f);
+      gap = λ m g f. gap_among (EarnsStaged J n kinds operands) (NoneStagedBetter J n) (certify_staged_verdict s choices ws n kinds operands old) earned most (compares old) m g (sym e ∙ f);
     }
 
-    -- a refusal before the storage checks, handed on
-    early : {v : Checked} {r : Refusal} {c : Certificate} → staged_plan_verdict s choices ws n kinds operands ≡ Refused r → v ≡ Refused r → c ≡ handed_on v (compared 0 0) → CertifyStagedPromises s choices ws n kinds operands old old c
-    early {c = c} e v h = promised c (handed_before stored unrefused e v h) (rw e (record { lengths = refl; widths = refl; table = refl }))
-
-    -- the plan's verdict after those of job and weights, and of the limit
-    after : {u v : Checked} → accept_verdict s choices ws ≡ u → first_refusal (limit_check n ∷ []) ≡ v → staged_plan_verdict s choices ws n kinds operands ≡ next (next u v) (within_verdict J n kinds operands)
-    after e f = ap (λ v. next v (within_verdict J n kinds operands)) (ap₂ next e f)
+    -- a refusal before the storage checks
+    early : {x : Refusal} {r : Answer Certificate} → staged_plan_verdict s choices ws n kinds operands ≡ Err x → IsErrAnd r (λ y. y ≡ x) → CertifyStagedPromises s choices ws n kinds operands old old r
+    early e p = promised _ (refused_answer _ _ _ (before_refuses _ _ e) p) (rw e (record { lengths = refl; widths = refl; table = refl }))
 
     -- the job or its weights are refused
-    pub job_refused : {v : Checked} {r : Refusal} {c : Certificate} → accept_verdict s choices ws ≡ Refused r → v ≡ Refused r → c ≡ handed_on v (compared 0 0) → CertifyStagedPromises s choices ws n kinds operands old old c
-    job_refused e v h = early (after e refl) v h
+    pub unaccepted : {a : Answer Acceptance} {x : Refusal} {r : Answer Certificate} → a ≡ acceptance_of s choices ws → a ≡ Err x → IsErrAnd r (λ y. y ≡ x) → CertifyStagedPromises s choices ws n kinds operands old old r
+    unaccepted e f p = early (before_refuses _ _ (before_refuses _ _ (refused_both s choices ws e f))) p
 
-    -- the limit is
-    pub limit_refused : Accepted s choices ws → outside 1 most_limit n ≡ true → CertifyStagedPromises s choices ws n kinds operands old old (certificate.Refused StageLimit)
-    limit_refused a e = early (after a (limit_by n true e)) refl refl
+    module _ {j : JobRecord} {q : ℕ} (t : Taken s choices ws j q) {v : Checked} (limited : v ≡ first_refusal (limit_check n ∷ [])) where
+      limit_decides : limit_verdict s choices ws n ≡ v
+      limit_decides = before_passes _ _ t.accepted ∙ sym limited
 
-    module _ {j : JobRecord} {q : ℕ} (t : Taken s choices ws j q) (inside : outside 1 most_limit n ≡ false) {a : StagedAnswer} (checked : a ≡ within_answer (job_of j) n kinds operands) where
-      checked_is : a ≡ within_answer J n kinds operands
-      checked_is = checked ∙ ap (λ j. within_answer (job_of j) n kinds operands) t.record_is
+      -- the limit is refused
+      pub limit_refused : {x : Refusal} {r : Answer Certificate} → v ≡ Err x → IsErrAnd r (λ y. y ≡ x) → CertifyStagedPromises s choices ws n kinds operands old old r
+      limit_refused f p = early (before_refuses _ _ (limit_decides ∙ f)) p
 
-      within : within_verdict J n kinds operands ≡ a.verdict
-      within = sym (ap (λ (x : StagedAnswer). x.verdict) checked_is ∙ verdict_by (within_verdict J n kinds operands) (plan_answer J kinds operands).report (stages (tree_in kinds operands)))
+      module _ (inside : v ≡ passed) {a : Answer StagedReport} (said : a ≡ within_answer (job_of j) n kinds operands) where
+        good : JobPasses s choices
+        good = (accepted_both s choices ws t.accepted).0
 
-      walked : staged_plan_verdict s choices ws n kinds operands ≡ a.verdict
-      walked = after t.accepted (limit_by n false inside) ∙ within
+        said_is : a ≡ within_answer J n kinds operands
+        said_is = said ∙ ap (λ j. within_answer (job_of j) n kinds operands) t.record_is
 
-      -- the plan is refused
-      pub plan_refused : {r : Refusal} {c : Certificate} → a.verdict ≡ Refused r → c ≡ handed_on a.verdict (compared 0 0) → CertifyStagedPromises s choices ws n kinds operands old old c
-      plan_refused p h = early (walked ∙ p) p h
+        walked : staged_plan_verdict s choices ws n kinds operands ≡ verdict_of a
+        walked = before_passes _ _ (limit_decides ∙ inside) ∙ sym (ap verdict_of said_is ∙ within_is J (read_in_range s choices good).kinds.1 n kinds operands)
 
-      module _ (passed : a.verdict ≡ Passed) {new : Memory} {found : BoundAnswer} (whole : Staged (wide_job s choices) (weight_in ws) n (block_capacity s choices ws) old new found) where
-        left : StagedLeaves (staged_plan_verdict s choices ws n kinds operands) (wide_job s choices) (weight_in ws) n (block_capacity s choices ws) old new
-        left = rw (walked ∙ passed) whole.memory
+        -- the plan is refused
+        pub plan_refused : {x : Refusal} {r : Answer Certificate} → a ≡ Err x → IsErrAnd r (λ y. y ≡ x) → CertifyStagedPromises s choices ws n kinds operands old old r
+        plan_refused f p = early (walked ∙ ap verdict_of f) p
 
-        -- the storage is refused
-        pub storage_refused : {v : Checked} {r : Refusal} {c : Certificate} → found ≡ bound.Refused r → v ≡ storage_verdict found → c ≡ handed_on v (compared 0 0) → CertifyStagedPromises s choices ws n kinds operands old new c
-        storage_refused {c = c} e u h = promised c (handed_after stored unrefused (walked ∙ passed) (refused_behind stored (staged_block_report s choices ws n) (sym e ∙ whole.answer)) e u h) left
+        module _ {report : StagedReport} (f : a ≡ Ok report) {new : Memory} {found : Answer BoundReport} (whole : Staged (wide_job s choices) (weight_in ws) n (block_capacity s choices ws) old new found) where
+          left : StagedLeaves (staged_plan_verdict s choices ws n kinds operands) (wide_job s choices) (weight_in ws) n (block_capacity s choices ws) old new
+          left = rw (walked ∙ ap verdict_of f) whole.memory
 
-        module _ {x : BoundReport} (e : found ≡ bound.Answered x) where
-          -- the report behind a bound that was answered
-          reported : (stored ≡ Passed) × (x.bound ≡ most)
-          reported = let v = answered_behind stored (staged_block_report s choices ws n) (sym e ∙ whole.answer) in (v.0, ap (λ (y : BoundReport). y.bound) v.1)
+          storage_decides : certify_staged_verdict s choices ws n kinds operands old ≡ stored
+          storage_decides = before_passes _ _ (walked ∙ ap verdict_of f)
 
-          profit_is : a.report.profit ≡ profit
-          profit_is =
-              ap (λ (x : StagedAnswer). x.report.profit) checked_is
-              ∙ ap (λ v. (staged_by v (plan_answer J kinds operands).report (stages (tree_in kinds operands))).report.profit) (within ∙ passed)
+          -- the storage is refused
+          pub storage_refused : {x : Refusal} {r : Answer Certificate} → found ≡ Err x → IsErrAnd r (λ y. y ≡ x) → CertifyStagedPromises s choices ws n kinds operands old new r
+          storage_refused e p = promised _ (refused_answer _ _ _ (storage_decides ∙ refusal_answered stored _ (sym whole.answer ∙ e)) p) left
 
-          -- no check refuses
-          pub certified : {c : Certificate} → c ≡ compared a.report.profit x.bound → CertifyStagedPromises s choices ws n kinds operands old new c
-          certified {c} h = promised c (handed_whole stored unrefused (walked ∙ passed) reported.0 (h ∙ ap₂ compared profit_is reported.1)) left
+          module _ {x : BoundReport} (e : found ≡ Ok x) where
+            -- the report behind a bound that was answered, and the plan's
+            reported : (stored ≡ passed) × (x.bound ≡ most)
+            reported = let v = value_answered stored (staged_block_report s choices ws n) (sym whole.answer ∙ e) in (v.0, ap (λ (y : BoundReport). y.bound) v.1)
 
-          -- the profit is at most the bound answered
-          pub profit_most : a.report.profit ≤ x.bound
-          profit_most = omega (arith, profit_is, reported.1, (compares old (ap₂ next (walked ∙ passed) reported.0)).1)
+            profit_is : report.report.profit ≡ earned
+            profit_is = (drawn good (sym said_is ∙ f)).1
+
+            -- no check refuses
+            pub certified : {c : Certificate} → c ≡ compared report.report.profit x.bound → CertifyStagedPromises s choices ws n kinds operands old new (Ok c)
+            certified h = promised _ (given_answer _ _ (storage_decides ∙ reported.0) (ap Ok (h ∙ ap₂ compared profit_is reported.1))) left
+
+            -- the profit is at most the bound answered
+            pub profit_most : report.report.profit ≤ x.bound
+            profit_most = omega (arith, profit_is, reported.1, (compares old (storage_decides ∙ reported.0)).1)

@@ -7,9 +7,11 @@ ghost use Rattle.job.specs.Block.{with_full_demand};
 ghost use Rattle.bound.specs.Bound.{lent};
 ghost use Rattle.staged_certificate.specs.Certificate.{CertifyStagedPromises};
 
-use certificate::{conclude, storage_verdict};
+use certificate::compare;
+use job::Acceptance;
 use pieces::{list_pieces, plate_of};
-use promises::{BoundAnswer, Certificate, Checked, Choices, Refusal};
+use promises::{Certificate, Choices, Refusal};
+use refusal::refuse_if;
 use staged_plan::check_within;
 use stages::limit_outside;
 
@@ -25,43 +27,28 @@ pub fn certify_staged(
     lengths: &mut [u16],
     widths: &mut [u16],
     table: &mut [u64],
-) -> Certificate
+) -> Result<Certificate, Refusal>
     ensures { CertifyStagedPromises block.now choices weights.now limit kinds.now operands.now (lent lengths.old widths.old table.old)
         (lent lengths.new widths.new table.new) result }
 {
-    let accepted = job::accept(block, choices, weights);
-    let read = accepted.verdict;
-    let Checked::Passed = read else {
-        return conclude(read, 0, 0);
-    };
-    if limit_outside(limit) {
-        return Certificate::Refused(Refusal::StageLimit);
-    }
-    let record = accepted.job;
-    let drawn = check_within(record, limit as u8, kinds, operands);
-    let walked = drawn.verdict;
-    let Checked::Passed = walked else {
-        return conclude(walked, 0, 0);
-    };
-    let report = drawn.report;
+    let Acceptance { job, capacity } = job::accept(block, choices, weights)?;
+    refuse_if(limit_outside(limit), Refusal::StageLimit)?;
+    let plan = check_within(job, limit as u8, kinds, operands)?;
     let mut pieces = [0u32; 640];
-    let count = list_pieces(record, weights, &mut pieces);
+    let count = list_pieces(job, weights, &mut pieces);
     let mut floors = [0u16; 2042];
-    let found = staged_bound::bound_of_pieces(
-        plate_of(record),
+    let most = staged_bound::bound_of_pieces(
+        plate_of(job),
         count,
         &pieces,
-        accepted.capacity,
+        capacity,
         limit as usize,
         lengths,
         widths,
         &mut floors,
         table,
-    );
-    let BoundAnswer::Answered(b) = found else {
-        return conclude(storage_verdict(found), 0, 0);
-    };
-    conclude(Checked::Passed, report.profit, b.bound)
+    )?;
+    Ok(compare(plan.report.profit, most.bound))
 }
 
 // The same with the capacity of the full demands, whatever the choices say of it: demand times weight over all kinds.
@@ -75,7 +62,7 @@ pub fn certify_staged_full_demand(
     lengths: &mut [u16],
     widths: &mut [u16],
     table: &mut [u64],
-) -> Certificate
+) -> Result<Certificate, Refusal>
     ensures { CertifyStagedPromises block.now (with_full_demand choices) weights.now limit kinds.now operands.now (lent lengths.old widths.old table.old)
         (lent lengths.new widths.new table.new) result }
 {

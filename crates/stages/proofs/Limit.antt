@@ -1,13 +1,12 @@
--- The check of a limit; the checks of a tree, which pass exactly where its stages are within the limit and else name a cut.
-use Rattle.stages.proofs.Prelude.{◌≡◌, refl, sym, ◌∙◌, ap, Bool, true, false, ◌||◌, List, [], ◌∷◌, map, ℕ, ◌+◌, ◌-◌, ◌≤◌, arith, lt-leb, leb-false, ltb-false, leb, ltb, Direction, most_limit, Tree, waste, piece, cut, change, stages_below, root, stages, path_stages, node_count, root_stages, Refusal, StageLimit, ManyStages, Checked, Passed, Refused, next, refuse_when, by_check, place_of, first_refusal, outside, cons_passed, append_passed, passed_append, limit_check, node_paths, above_checks, path_checks, staged_as, stage_checks}
+-- The check of a limit; the checks of a tree, which pass exactly where its stages are within the limit.
+use Rattle.stages.proofs.Prelude.{◌≡◌, refl, sym, ◌∙◌, ap, Bool, true, false, ◌||◌, [], ◌∷◌, ℕ, ◌+◌, ◌-◌, ◌≤◌, arith, lt-leb, leb-false, ltb-false, leb, ltb, Direction, most_limit, Tree, waste, piece, cut, change, stages_below, root, stages, node_count, root_stages, StageLimit, next, refuse_when, first_refusal, outside, cons_passed, append_passed, passed_append, limit_check, path_checks, stage_checks, passed}
 use Rattle.cutting.specs.Pieces as laid
-use Rattle.stages.specs.declared.Staged.TheVariants as answer
 use Rattle.stages.proofs.Place.{by_paths}
 
 -- the check of the limit
-pub limit_by : (n : ℕ) (b : Bool) → outside 1 most_limit n ≡ b → first_refusal (limit_check n ∷ []) ≡ next (refuse_when b StageLimit) Passed
+pub limit_by : (n : ℕ) (b : Bool) → outside 1 most_limit n ≡ b → first_refusal (limit_check n ∷ []) ≡ next (refuse_when b StageLimit) passed
 unfolding first_refusal
-limit_by n b e = ap (λ x. next (refuse_when x StageLimit) Passed) e
+limit_by n b e = ap (λ x. next (refuse_when x StageLimit) passed) e
 
 or_false : (a b : Bool) → (a || b) ≡ false → (a ≡ false) × (b ≡ false)
 or_false true b e = (e, cc)
@@ -17,7 +16,7 @@ or_false false b e = (refl, e)
 pub limit_inside : (n : ℕ) → outside 1 most_limit n ≡ false → (1 ≤ n) × (n ≤ most_limit)
 limit_inside n e = let f = or_false (ltb n 1) (ltb most_limit n) e in (ltb-false n 1 f.0, ltb-false most_limit n f.1)
 
-passed_below : (t : Tree laid.Piece) (d : Direction) (k n : ℕ) → first_refusal (stage_checks d k n t) ≡ Passed → stages_below d t ≤ k
+passed_below : (t : Tree laid.Piece) (d : Direction) (k n : ℕ) → first_refusal (stage_checks d k n t) ≡ passed → stages_below d t ≤ k
 unfolding stage_checks stages_below
 passed_below waste d k n h = omega arith
 passed_below (piece p) d k n h = omega arith
@@ -26,7 +25,7 @@ passed_below (cut e x a b) d k n h =
     let v = append_passed (stage_checks e (k - change d e) (n + 1) a) (stage_checks e (k - change d e) (n + 1 + node_count a) b) u.1 in
     omega (arith, leb-false k (change d e) u.0, passed_below a e (k - change d e) (n + 1) v.0, passed_below b e (k - change d e) (n + 1 + node_count a) v.1)
 
-below_passed : (t : Tree laid.Piece) (d : Direction) (k n : ℕ) → stages_below d t ≤ k → first_refusal (stage_checks d k n t) ≡ Passed
+below_passed : (t : Tree laid.Piece) (d : Direction) (k n : ℕ) → stages_below d t ≤ k → first_refusal (stage_checks d k n t) ≡ passed
 unfolding stage_checks stages_below first_refusal
 below_passed waste d k n h = refl
 below_passed (piece p) d k n h = refl
@@ -36,43 +35,9 @@ below_passed (cut e x a b) d k n h =
     (below_passed a e (k - change d e) (n + 1) (omega arith)) (below_passed b e (k - change d e) (n + 1 + node_count a) (omega arith)))
 
 -- where check 23 passes, the plan's stages are within the limit
-pub passed_within : (t : Tree laid.Piece) (k : ℕ) → first_refusal (path_checks k t) ≡ Passed → stages t ≤ k
+pub passed_within : (t : Tree laid.Piece) (k : ℕ) → first_refusal (path_checks k t) ≡ passed → stages t ≤ k
 passed_within t k h = omega (arith, passed_below t (root t) k 0 (by_paths k t ∙ h), root_stages t)
 
 -- and the other way
-pub within_passed : (t : Tree laid.Piece) (k : ℕ) → stages t ≤ k → first_refusal (path_checks k t) ≡ Passed
+pub within_passed : (t : Tree laid.Piece) (k : ℕ) → stages t ≤ k → first_refusal (path_checks k t) ≡ passed
 within_passed t k h = sym (by_paths k t) ∙ below_passed t (root t) k 0 (omega (arith, root_stages t))
-
--- a check whose refusals name a cut
-abbrev Named : Checked → Type 0
-Named v = (r : Refusal) → v ≡ Refused r → r ≡ ManyStages (place_of r)
-
-named_next : (a b : Checked) → Named a → Named b → Named (next a b)
-named_next Passed b f g = g
-named_next (Refused r) b f g = f
-
-named_when : (t : Bool) (n : ℕ) → Named (refuse_when t (ManyStages n))
-named_when true n r e = let i : ManyStages n ≡ r = cc in sym i ∙ ap (λ x. ManyStages (place_of x)) i
-named_when false n r e = cc
-
--- so does check 23
-named_above : (k i : ℕ) (ss : List ℕ) → Named (first_refusal (above_checks k i ss))
-unfolding above_checks first_refusal
-named_above k i [] = λ r e. cc
-named_above k i (s ∷ ss) = named_next (refuse_when (ltb k s) (ManyStages i)) _ (named_when (ltb k s) i) (named_above k (i + 1) ss)
-
--- what the answer for a tree decides: its stages are within the limit, or check 23 names the cut
-module _ (k : ℕ) (t : Tree laid.Piece) where
-  pub staged_within : {s : ℕ} → answer.Within s ≡ staged_as k t → (first_refusal (path_checks k t) ≡ Passed) × (s ≡ stages t)
-  staged_within {s} e = go (first_refusal (path_checks k t)) refl e
-    where
-      go : (v : Checked) → first_refusal (path_checks k t) ≡ v → answer.Within s ≡ by_check v (answer.Within (stages t)) (λ r. answer.Past (place_of r)) → (first_refusal (path_checks k t) ≡ Passed) × (s ≡ stages t)
-      go Passed h e = (h, cc)
-      go (Refused r) h e = (cc, cc)
-
-  pub staged_past : {p : ℕ} → answer.Past p ≡ staged_as k t → first_refusal (path_checks k t) ≡ Refused (ManyStages p)
-  staged_past {p} e = go (first_refusal (path_checks k t)) refl e
-    where
-      go : (v : Checked) → first_refusal (path_checks k t) ≡ v → answer.Past p ≡ by_check v (answer.Within (stages t)) (λ r. answer.Past (place_of r)) → first_refusal (path_checks k t) ≡ Refused (ManyStages p)
-      go Passed h e = cc
-      go (Refused r) h e = let i : place_of r ≡ p = cc in h ∙ ap Refused (named_above k 0 (map path_stages (node_paths t)) r h ∙ ap ManyStages i)

@@ -1,7 +1,7 @@
 -- The steps of the two walks: what is known while some trees wait, at one node more of each kind, and at the end.
-use Rattle.stages.proofs.Prelude.{◌≡◌, refl, sym, ◌∙◌, ap, true, false, List, [], ◌∷◌, ◌++◌, append_assoc, append-nil, ℕ, ◌+◌, ◌-◌, ◌≤◌, ◌<◌, max, add-one, arith, le-leb, lt-leb, leb, length, drop, get_or, length-append, length-map, drop_of_length-le, drop-cons, drop-drop, drop_at, Direction, Length, Width, Cut, Tree, waste, piece, cut, other, change, stages_below, root, stages, change_same, change_other, preorder, kind_of, node_count, kinds_of, Refusal, ManyStages, Checked, Passed, Refused, next, by_check, place_of, first_refusal, first_append, next_passed, kinds_cut, count_cut, Walk, Next, Past, path_checks, staged_as, stage_checks, StagesOf, kinds_all, count_all, most_below, checks_all, ended_as, Walked, answer_of, cut_kind, Waiting, Walking}
+use Rattle.stages.proofs.Prelude.{◌≡◌, refl, sym, ◌∙◌, ap, true, false, List, [], ◌∷◌, ◌++◌, append_assoc, append-nil, ℕ, ◌+◌, ◌-◌, ◌≤◌, ◌<◌, max, add-one, arith, le-leb, lt-leb, leb, length, drop, get_or, length-append, length-map, drop_of_length-le, drop-cons, drop-drop, drop_at, Direction, Length, Width, Cut, Tree, waste, piece, cut, other, change, stages_below, root, stages, change_same, change_other, preorder, kind_of, node_count, kinds_of, Refusal, ManyStages, Answer, answer_by, next, first_refusal, first_append, next_passed, kinds_cut, count_cut, Walk, path_checks, staged_as, stage_checks, StagesOf, kinds_all, count_all, most_below, checks_all, ended_as, Walked, cut_kind, Waiting, Walking, Ok, Err, ForOk, passed, Checked}
 use Rattle.cutting.specs.Pieces as laid
-use Rattle.stages.specs.declared.Staged.TheVariants as answer
+use Rattle.refusal.proofs.Results.{value_answered, refusal_answered}
 use Rattle.stages.proofs.Place.{by_paths}
 
 -- a plan's trees
@@ -26,12 +26,6 @@ kind_is Width x = refl
 head_eq : {x y : ℕ} {xs ys : List ℕ} → x ∷ xs ≡ y ∷ ys → (x ≡ y) × (xs ≡ ys)
 head_eq e = (cc, cc)
 
-next_is : {m n s t : ℕ} → Next m s ≡ Next n t → (m ≡ n) × (s ≡ t)
-next_is e = (cc, cc)
-
-no_next : {A : Type 0} {p n s : ℕ} → Past p ≡ Next n s → A
-no_next e = absurd (let z : ◌≡◌ {A = ℕ} 0 1 = cc in let w : ⊥ = omega arith in w)
-
 -- a tree's kinds, by its first node
 abbrev Split : ℕ → List ℕ → Tree laid.Piece → List ℕ → Type 0
 Split kind tail waste rest = (kind ≡ 0) × (tail ≡ rest)
@@ -53,18 +47,6 @@ some_kind (piece (laid.upright i)) rest = omega arith
 some_kind (piece (laid.turned i)) rest = omega arith
 some_kind (cut d x a b) rest = omega (arith, ap length (kinds_cut d x a b rest))
 
--- how a walk ended
-ended_past : (v : Checked) (n s p : ℕ) → Past p ≡ ended_as v n s → (r : Refusal) × (v ≡ Refused r) × (p ≡ place_of r)
-ended_past Passed n s p e = no_next e
-ended_past (Refused r) n s p e = (r, refl, past_is e)
-  where
-    past_is : {p q : ℕ} → Past p ≡ Past q → p ≡ q
-    past_is e = cc
-
-ended_next : (v : Checked) (n s m u : ℕ) → Next m u ≡ ended_as v n s → (v ≡ Passed) × (m ≡ n) × (u ≡ s)
-ended_next Passed n s m u e = let k = next_is e in (refl, k.0, k.1)
-ended_next (Refused r) n s m u e = no_next (sym e)
-
 -- the checks where a cut stands first: its own, those of its parts, and those of the trees after it
 checks_cut : (d e : Direction) (left l n x : ℕ) (a b : Tree laid.Piece) (vs : Trees) → change d e < left → l ≡ left - change d e
     → first_refusal (checks_all d left n (cut e x a b ∷ vs)) ≡ next (first_refusal (checks_all e l (n + 1) (a ∷ b ∷ []))) (first_refusal (checks_all d left (n + 1 + count_all (a ∷ b ∷ [])) vs))
@@ -75,7 +57,7 @@ checks_cut d e left l n x a b vs room less =
     rw (t, c, ← less) (first_append (stage_checks e l (n + 1) a ++ stage_checks e l (n + 1 + node_count a) b) (checks_all d left (n + 1 + (node_count a + (node_count b + 0))) vs)
     ∙ ap (λ cs. next (first_refusal (stage_checks e l (n + 1) a ++ cs)) (first_refusal (checks_all d left (n + 1 + (node_count a + (node_count b + 0))) vs))) (sym (append-nil (stage_checks e l (n + 1 + node_count a) b))))
 
-checks_none : (d e : Direction) (left n x : ℕ) (a b : Tree laid.Piece) (vs : Trees) → left ≤ change d e → first_refusal (checks_all d left n (cut e x a b ∷ vs)) ≡ Refused (ManyStages n)
+checks_none : (d e : Direction) (left n x : ℕ) (a b : Tree laid.Piece) (vs : Trees) → left ≤ change d e → first_refusal (checks_all d left n (cut e x a b ∷ vs)) ≡ Err (ManyStages n)
 unfolding checks_all stage_checks first_refusal
 checks_none d e left n x a b vs h = let t : leb left (change d e) ≡ true = le-leb left (change d e) h in rw t refl
 
@@ -114,29 +96,33 @@ begins d ks left at h = record {
 }
 
 module _ {d : Direction} {ks : List ℕ} {left at n waiting most : ℕ} (w : Walking d ks left at n waiting most) where
+  -- where it ends
+  ended_inside : ForOk {E = Refusal} (Ok (record { next = n; stages = most })) (λ (v : Walk). (at ≤ v.next) × (v.next ≤ length ks) × (v.stages ≤ left))
+  ended_inside v e = let k : n ≡ v.next = cc in let s : most ≡ v.stages = cc in (omega (arith, w.from), omega (arith, w.to), omega (arith, w.low))
+
   -- no tree waits
-  pub ends : waiting ≤ 0 → Walked d ks at left (Next n most)
+  pub ends : waiting ≤ 0 → Walked d ks at left (Ok (record { next = n; stages = most }))
   unfolding checks_all count_all most_below first_refusal
   ends h = record {
     trees = λ a b rest e. (let u = w.trees a b rest e in all a b u.us (omega (arith, u.number)) u refl);
-    inside = λ m s e. (let k = next_is e in (omega (arith, k.0, w.from), omega (arith, k.0, w.to), omega (arith, k.1, w.low)));
+    inside = ended_inside;
   }
     where
       all : (a b : Tree laid.Piece) (us : Trees) → length us ≤ 0 → {rest : List ℕ} (u : Waiting d ks left at n waiting most (a ∷ b ∷ []) rest) → u.us ≡ us
-          → Next n most ≡ ended_as (first_refusal (checks_all d left at (a ∷ b ∷ []))) (at + count_all (a ∷ b ∷ [])) (most_below d (a ∷ b ∷ []))
+          → Ok (record { next = n; stages = most }) ≡ ended_as (first_refusal (checks_all d left at (a ∷ b ∷ []))) (at + count_all (a ∷ b ∷ [])) (most_below d (a ∷ b ∷ []))
       all a b (t ∷ ts) l u e = absurd (omega arith)
       all a b [] l u e =
-          let c : first_refusal (checks_all d left at (a ∷ b ∷ [])) ≡ Passed = u.checks ∙ ap (λ us. first_refusal (checks_all d left n us)) e in
+          let c : first_refusal (checks_all d left at (a ∷ b ∷ [])) ≡ passed = u.checks ∙ ap (λ us. first_refusal (checks_all d left n us)) e in
           let m : at + count_all (a ∷ b ∷ []) ≡ n = omega (arith, u.nodes, ap count_all e) in
           let s : most_below d (a ∷ b ∷ []) ≡ most = omega (arith, u.stages, ap (most_below d) e) in
           sym (λ i. ended_as (c i) (m i) (s i))
 
   module _ (wait : 0 < waiting) where
     -- no node is left: then the two trees are not there
-    pub lacks : length ks ≤ n → Walked d ks at left (Next n most)
+    pub lacks : length ks ≤ n → Walked d ks at left (Ok (record { next = n; stages = most }))
     lacks h = record {
       trees = λ a b rest e. (let u = w.trees a b rest e in none a b u.us rest (omega (arith, u.number)) (sym (drop_of_length-le ks h) ∙ u.kinds));
-      inside = λ m s e. (let k = next_is e in (omega (arith, k.0, w.from), omega (arith, k.0, w.to), omega (arith, k.1, w.low)));
+      inside = ended_inside;
     }
       where
         none : {A : Type 0} (a b : Tree laid.Piece) (us : Trees) (rest : List ℕ) → 0 < length us → [] ≡ kinds_all us ++ rest → A
@@ -212,36 +198,34 @@ module _ {d : Direction} {ks : List ℕ} {left at n waiting most : ℕ} (w : Wal
                 ∙ ap (λ cs. stage_checks d left (n + 1) a ++ (cs ++ checks_all d left (n + 1 + node_count a + node_count b) vs)) (append-nil (stage_checks d left (n + 1 + node_count a) b))))
 
         -- a cut that changes it and passes the limit
-        none_left : kind ≡ cut_kind (other d) → left ≤ 1 → first_refusal (checks_all d left at ts) ≡ Refused (ManyStages n)
+        none_left : kind ≡ cut_kind (other d) → left ≤ 1 → first_refusal (checks_all d left at ts) ≡ Err (ManyStages n)
         none_left k l = at_cut (other d) k (λ x a b vs q. u.checks ∙ ap (λ us. first_refusal (checks_all d left n us)) q ∙ checks_none d (other d) left n x a b vs (omega (arith, change_other d))) u.us refl
 
         -- one that changes it and whose parts pass the limit
-        parts_past : kind ≡ cut_kind (other d) → 2 ≤ left → (r : Walk) (p : ℕ) → r ≡ Past p → Walked (other d) ks (n + 1) (left - 1) r → (e : Refusal) × (first_refusal (checks_all d left at ts) ≡ Refused e) × (p ≡ place_of e)
-        parts_past k l r p is f = at_cut (other d) k (λ x a b vs q.
-            (let v = ended_past (first_refusal (checks_all (other d) (left - 1) (n + 1) (a ∷ b ∷ []))) _ _ p (sym is ∙ f.trees a b (kinds_all vs ++ rest) (parts (other d) x a b vs q)) in (
-              v.0,
-              u.checks ∙ ap (λ us. first_refusal (checks_all d left n us)) q ∙ checks_cut d (other d) left (left - 1) n x a b vs (omega (arith, change_other d)) (omega (arith, change_other d))
-                  ∙ ap (λ c. next c (first_refusal (checks_all d left (n + 1 + count_all (a ∷ b ∷ [])) vs))) v.1,
-              v.2,
-            ))) u.us refl
+        parts_past : kind ≡ cut_kind (other d) → 2 ≤ left → {r : Answer Walk} {x : Refusal} → r ≡ Err x → Walked (other d) ks (n + 1) (left - 1) r → first_refusal (checks_all d left at ts) ≡ Err x
+        parts_past k l is f = at_cut (other d) k (λ x a b vs q.
+            u.checks ∙ ap (λ us. first_refusal (checks_all d left n us)) q ∙ checks_cut d (other d) left (left - 1) n x a b vs (omega (arith, change_other d)) (omega (arith, change_other d))
+            ∙ ap (λ c. next c (first_refusal (checks_all d left (n + 1 + count_all (a ∷ b ∷ [])) vs)))
+            (refusal_answered (first_refusal (checks_all (other d) (left - 1) (n + 1) (a ∷ b ∷ []))) _ (sym (f.trees a b (kinds_all vs ++ rest) (parts (other d) x a b vs q)) ∙ is))) u.us refl
 
         -- one whose parts are walked
-        parts_waiting : kind ≡ cut_kind (other d) → 2 ≤ left → (r : Walk) (m s : ℕ) → r ≡ Next m s → Walked (other d) ks (n + 1) (left - 1) r → Waiting d ks left at m (waiting - 1) (max most (max 1 s + 1)) ts rest
+        parts_waiting : kind ≡ cut_kind (other d) → 2 ≤ left → (w : Walk) → Walked (other d) ks (n + 1) (left - 1) (Ok w) → Waiting d ks left at w.next (waiting - 1) (max most (max 1 w.stages + 1)) ts rest
         unfolding count_all most_below
-        parts_waiting k l r m s is f = at_cut (other d) k (λ x a b vs q.
+        parts_waiting k l w f = at_cut (other d) k (λ x a b vs q.
             (let e = parts (other d) x a b vs q in
-            let v = ended_next (first_refusal (checks_all (other d) (left - 1) (n + 1) (a ∷ b ∷ []))) _ _ m s (sym is ∙ f.trees a b (kinds_all vs ++ rest) e) in
+            let v = value_answered (first_refusal (checks_all (other d) (left - 1) (n + 1) (a ∷ b ∷ []))) _ (sym (f.trees a b (kinds_all vs ++ rest) e)) in
+            let m = ap (λ w. w.next) v.1 in
             record {
               us = vs;
               number = omega (arith, u.number, ap length q);
-              kinds = ap (λ m. drop m ks) v.1 ∙ drop_past a b vs e;
-              nodes = omega (arith, u.nodes, ap count_all q, count_first (other d) x a b vs, v.1);
+              kinds = ap (λ m. drop m ks) m ∙ drop_past a b vs e;
+              nodes = omega (arith, u.nodes, ap count_all q, count_first (other d) x a b vs, m);
               checks = u.checks ∙ ap (λ us. first_refusal (checks_all d left n us)) q ∙ checks_cut d (other d) left (left - 1) n x a b vs (omega (arith, change_other d)) (omega (arith, change_other d))
-                  ∙ (λ i. next (v.0 i) (first_refusal (checks_all d left (sym v.1 i) vs)));
-              stages = u.stages ∙ ap (λ us. max most (most_below d us)) q ∙ ap (max most) (most_cut d (other d) x a b vs ∙ ap (λ k. max k (most_below d vs)) (needs v.2)) ∙ assoc most (max 1 s + 1) (most_below d vs);
+                  ∙ (λ i. next (v.0 i) (first_refusal (checks_all d left (sym m i) vs)));
+              stages = u.stages ∙ ap (λ us. max most (most_below d us)) q ∙ ap (max most) (most_cut d (other d) x a b vs ∙ ap (λ k. max k (most_below d vs)) (needs (ap (λ w. w.stages) v.1))) ∙ assoc most (max 1 w.stages + 1) (most_below d vs);
             })) u.us refl
           where
-            needs : {m : ℕ} → s ≡ m → change d (other d) + max 1 m ≡ max 1 s + 1
+            needs : {s m : ℕ} → s ≡ m → change d (other d) + max 1 m ≡ max 1 s + 1
             needs e = rw (change_other d, e) (omega arith)
 
             drop_past : (a b : Tree laid.Piece) (vs : Trees) → drop (n + 1) ks ≡ kinds_all (a ∷ b ∷ []) ++ (kinds_all vs ++ rest) → drop (n + 1 + count_all (a ∷ b ∷ [])) ks ≡ kinds_all vs ++ rest
@@ -269,27 +253,32 @@ module _ {d : Direction} {ks : List ℕ} {left at n waiting most : ℕ} (w : Wal
       }
 
       -- one that changes it: no stage is left
-      pub past : kind ≡ cut_kind (other d) → left ≤ 1 → Walked d ks at left (Past n)
-      past k l = record { trees = λ a b rest e. sym (ap (λ v. ended_as v (at + count_all (a ∷ b ∷ [])) (most_below d (a ∷ b ∷ []))) (none_left (w.trees a b rest e) k l)); inside = λ m s e. no_next e }
+      pub past : kind ≡ cut_kind (other d) → left ≤ 1 → Walked d ks at left (Err (ManyStages n))
+      past k l = record { trees = λ a b rest e. sym (ap (λ v. ended_as v (at + count_all (a ∷ b ∷ [])) (most_below d (a ∷ b ∷ []))) (none_left (w.trees a b rest e) k l)); inside = λ v e. cc }
 
       -- its parts pass the limit
-      pub stops : kind ≡ cut_kind (other d) → 2 ≤ left → (r : Walk) (p : ℕ) → r ≡ Past p → Walked (other d) ks (n + 1) (left - 1) r → Walked d ks at left r
-      stops k l r p is f = record {
-        trees = λ a b rest e. (let v = parts_past (w.trees a b rest e) k l r p is f in is ∙ ap Past v.2 ∙ sym (ap (λ v. ended_as v (at + count_all (a ∷ b ∷ [])) (most_below d (a ∷ b ∷ []))) v.1));
-        inside = λ m s e. no_next (sym is ∙ e);
+      pub stops : kind ≡ cut_kind (other d) → 2 ≤ left → {r : Answer Walk} {x : Refusal} → r ≡ Err x → Walked (other d) ks (n + 1) (left - 1) r → Walked d ks at left (Err x)
+      stops k l is f = record {
+        trees = λ a b rest e. sym (ap (λ v. ended_as v (at + count_all (a ∷ b ∷ [])) (most_below d (a ∷ b ∷ []))) (parts_past (w.trees a b rest e) k l is f));
+        inside = λ v e. cc;
       }
 
       -- its parts are walked
-      pub goes_on : kind ≡ cut_kind (other d) → 2 ≤ left → (r : Walk) (m s : ℕ) → r ≡ Next m s → Walked (other d) ks (n + 1) (left - 1) r → Walking d ks left at m (waiting - 1) (max most (max 1 s + 1))
-      goes_on k l r m s is f =
-          let i = f.inside m s is in
+      pub goes_on : kind ≡ cut_kind (other d) → 2 ≤ left → (v : Walk) → Walked (other d) ks (n + 1) (left - 1) (Ok v) → Walking d ks left at v.next (waiting - 1) (max most (max 1 v.stages + 1))
+      goes_on k l v f =
+          let i = f.inside v refl in
           record {
             from = omega (arith, w.from, i.0);
             to = i.1;
             few = omega (arith, w.few, w.from, i.0);
             low = omega (arith, w.low, i.2);
-            trees = λ a b rest e. parts_waiting (w.trees a b rest e) k l r m s is f;
+            trees = λ a b rest e. parts_waiting (w.trees a b rest e) k l v f;
           }
+
+-- what the walk of the first cut's parts says of the plan: the cut itself begins the first stage
+abbrev pub answer_of : Answer Walk → Answer ℕ
+answer_of (Ok w) = Ok (max 1 w.stages)
+answer_of (Err r) = Err r
 
 -- a whole plan
 module _ (ks : List ℕ) (limit kind : ℕ) (some : 1 ≤ length ks) (read : kind ≡ get_or ks 0 0) where
@@ -297,17 +286,17 @@ module _ (ks : List ℕ) (limit kind : ℕ) (some : 1 ≤ length ks) (read : kin
   plan_split t e = split kind (drop 1 ks) t [] (sym (drop-cons ks 0 0 some ∙ (λ i. sym read i ∷ drop 1 ks)) ∙ e ∙ sym (append-nil (kinds_of t)))
 
   -- without a cut
-  pub plan_leaf : (kind ≡ 2 → ⊥) → (kind ≡ 3 → ⊥) → StagesOf ks limit (answer.Within 0)
+  pub plan_leaf : (kind ≡ 2 → ⊥) → (kind ≡ 3 → ⊥) → StagesOf ks limit (Ok 0)
   unfolding stage_checks first_refusal stages
-  plan_leaf f g waste e = ap (λ v. by_check v (answer.Within 0) (λ r. answer.Past (place_of r))) (by_paths limit waste)
-  plan_leaf f g (piece p) e = ap (λ v. by_check v (answer.Within 0) (λ r. answer.Past (place_of r))) (by_paths limit (piece p))
+  plan_leaf f g waste e = ap (λ v. answer_by v 0) (by_paths limit waste)
+  plan_leaf f g (piece p) e = ap (λ v. answer_by v 0) (by_paths limit (piece p))
   plan_leaf f g (cut Length x a b) e = absurd (f (plan_split (cut Length x a b) e).0)
   plan_leaf f g (cut Width x a b) e = absurd (g (plan_split (cut Width x a b) e).0)
 
-  module _ (d : Direction) (cuts : kind ≡ cut_kind d) (least : 1 ≤ limit) (r : Walk) (w : Walked d ks 1 limit r) where
-    ended_answer : (v : Checked) (n s : ℕ) → answer_of (ended_as v n s) ≡ by_check v (answer.Within (max 1 s)) (λ r. answer.Past (place_of r))
-    ended_answer Passed n s = refl
-    ended_answer (Refused q) n s = refl
+  module _ (d : Direction) (cuts : kind ≡ cut_kind d) (least : 1 ≤ limit) (r : Answer Walk) (w : Walked d ks 1 limit r) where
+    ended_answer : (v : Checked) (n s : ℕ) → answer_of (ended_as v n s) ≡ answer_by v (max 1 s)
+    ended_answer (Ok _) n s = refl
+    ended_answer (Err q) n s = refl
 
     first_checks : (x : ℕ) (a b : Tree laid.Piece) → first_refusal (path_checks limit (cut d x a b)) ≡ first_refusal (checks_all d limit 1 (a ∷ b ∷ []))
     unfolding root checks_all first_refusal
@@ -320,7 +309,7 @@ module _ (ks : List ℕ) (limit kind : ℕ) (some : 1 ≤ length ks) (read : kin
     first_cut : (x : ℕ) (a b : Tree laid.Piece) → drop 1 ks ≡ kinds_of a ++ (kinds_of b ++ []) → answer_of r ≡ staged_as limit (cut d x a b)
     unfolding kinds_all
     first_cut x a b e = ap answer_of (w.trees a b [] (e ∙ sym (append-nil (kinds_of a ++ (kinds_of b ++ []))))) ∙ ended_answer (first_refusal (checks_all d limit 1 (a ∷ b ∷ []))) _ _
-        ∙ sym (λ i. by_check (first_checks x a b i) (answer.Within (first_stages x a b i)) (λ r. answer.Past (place_of r)))
+        ∙ sym (λ i. answer_by (first_checks x a b i) (first_stages x a b i))
 
     -- with one
     pub plan_cut : StagesOf ks limit (answer_of r)

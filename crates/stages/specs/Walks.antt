@@ -1,5 +1,6 @@
 -- What only inner contracts cite: the answer for the kinds of a tree, check 23 as the walks over a plan's kinds count it, and how they end.
-use Rattle.std.specs.Prelude.{◌≡◌, Bool, true, false, List, [], ◌∷◌, ◌++◌, ℕ, ◌+◌, ◌-◌, ◌≤◌, ◌<◌, max, leb, length, drop, get_or}
+use Rattle.std.specs.Prelude.{◌≡◌, Bool, true, false, List, [], ◌∷◌, ◌++◌, ℕ, ◌+◌, ◌-◌, ◌≤◌, ◌<◌, max, leb, length, drop, get_or, Ok, Err}
+use Rattle.std.specs.Result.{ForOk}
 use Rattle.promises.specs.declared.Direction.{Direction}
 use Rattle.promises.specs.declared.Direction.TheVariants.{Length, Width}
 use Rattle.cutting.specs.Tree.{Tree, waste, piece, cut}
@@ -7,23 +8,19 @@ use Rattle.cutting.specs.Pieces as laid
 use Rattle.cutting.specs.Shares.{other, change, root, stages_below, stages}
 use Rattle.cutting.specs.Preorder.{node_count, kinds_of}
 use Rattle.promises.specs.declared.Refusal.TheVariants.{ManyStages}
-use Rattle.promises.specs.declared.Checked.{Checked}
-use Rattle.refusal.specs.Refusals.{Check, by_check, place_of, first_refusal}
+use Rattle.refusal.specs.Refusals.{Answer, Check, Checked, answer_by, first_refusal}
 use Rattle.stages.specs.Stages.{path_checks}
 use Rattle.stages.specs.declared.Walk.{Walk}
-use Rattle.stages.specs.declared.Walk.TheVariants.{Next, Past}
 use Rattle.stages.specs.declared.Reach.{Reach}
 use Rattle.stages.specs.declared.Step.{Step}
 use Rattle.stages.specs.declared.Step.TheVariants.{Change, End}
-use Rattle.stages.specs.declared.Staged.{Staged}
-use Rattle.stages.specs.declared.Staged.TheVariants as answer
 
 -- the answer for a tree: its stages, or the first cut that passes the limit
-abbrev pub staged_as : ℕ → Tree laid.Piece → Staged
-staged_as k t = by_check (first_refusal (path_checks k t)) (answer.Within (stages t)) (λ r. answer.Past (place_of r))
+abbrev pub staged_as : ℕ → Tree laid.Piece → Answer ℕ
+staged_as k t = answer_by (first_refusal (path_checks k t)) (stages t)
 
 -- the answer for the kinds of a tree
-abbrev pub StagesOf : List ℕ → ℕ → Staged → Type 0
+abbrev pub StagesOf : List ℕ → ℕ → Answer ℕ → Type 0
 StagesOf ks k r = (t : Tree laid.Piece) → ks ≡ kinds_of t → r ≡ staged_as k t
 
 -- check 23 of a tree's cuts in preorder, its own node numbered n, below cuts in direction d with k stages left: a cut passes the limit
@@ -58,14 +55,14 @@ checks_all d k n [] = []
 checks_all d k n (t ∷ ts) = stage_checks d k n t ++ checks_all d k (n + node_count t) ts
 
 -- how a walk ends: past its trees with the stages that they need, or at the cut that passes the limit
-abbrev pub ended_as : Checked → ℕ → ℕ → Walk
-ended_as v n s = by_check v (Next n s) (λ r. Past (place_of r))
+abbrev pub ended_as : Checked → ℕ → ℕ → Answer Walk
+ended_as v n s = answer_by v (record { next = n; stages = s })
 
 -- the walk of the two parts of a cut from node `at` on, if they are there; and where it ends in any case
-pub record Walked (d : Direction) (ks : List ℕ) (at left : ℕ) (r : Walk) : Type 0 where
+pub record Walked (d : Direction) (ks : List ℕ) (at left : ℕ) (r : Answer Walk) : Type 0 where
   pub trees : (a b : Tree laid.Piece) (rest : List ℕ) → drop at ks ≡ kinds_all (a ∷ b ∷ []) ++ rest
       → r ≡ ended_as (first_refusal (checks_all d left at (a ∷ b ∷ []))) (at + count_all (a ∷ b ∷ [])) (most_below d (a ∷ b ∷ []))
-  pub inside : (n s : ℕ) → r ≡ Next n s → (at ≤ n) × (n ≤ length ks) × (s ≤ left)
+  pub inside : ForOk r (λ w. (at ≤ w.next) × (w.next ≤ length ks) × (w.stages ≤ left))
 
 -- the kind of a cut
 abbrev pub cut_kind : Direction → ℕ
@@ -73,9 +70,9 @@ cut_kind Length = 2
 cut_kind Width = 3
 
 -- one node passed: a cut that keeps the direction leaves one tree more, a waste or piece one fewer
-abbrev pub passed : Bool → Reach → Reach
-passed true s = record { next = s.next + 1; waiting = s.waiting + 1; most = max s.most 1 }
-passed false s = record { next = s.next + 1; waiting = s.waiting - 1; most = s.most }
+abbrev pub pass : Bool → Reach → Reach
+pass true s = record { next = s.next + 1; waiting = s.waiting + 1; most = max s.most 1 }
+pass false s = record { next = s.next + 1; waiting = s.waiting - 1; most = s.most }
 
 -- of the trees `ts` from node `at` on those that wait at node n, after the most stages met so far
 pub record Waiting (d : Direction) (ks : List ℕ) (left at n waiting most : ℕ) (ts : List (Tree laid.Piece)) (rest : List ℕ) : Type 0 where
@@ -106,32 +103,23 @@ pub record Changing (d : Direction) (ks : List ℕ) (left : ℕ) (s : Reach) : T
   pub turned : get_or ks s.next 0 ≡ cut_kind (other d)
   pub room : 2 ≤ left
 
--- where a walk of the trees from node `at` on stands
-abbrev pub Stands : Direction → List ℕ → ℕ → ℕ → Step → Type 0
-Stands d ks left at (Change s) = Reached d ks left at s × Changing d ks left s
-Stands d ks left at (End r) = Walked d ks at left r
-
--- how it ended, or how far it has come
-abbrev pub walk_at : Step → Walk
-walk_at (Change s) = Next s.next s.most
-walk_at (End r) = r
+-- where a walk of the trees from node `at` on stands, or that it is refused
+abbrev pub Stands : Direction → List ℕ → ℕ → ℕ → Answer Step → Type 0
+Stands d ks left at (Ok (Change s)) = Reached d ks left at s × Changing d ks left s
+Stands d ks left at (Ok (End w)) = Walked d ks at left (Ok w)
+Stands d ks left at (Err r) = Walked d ks at left (Err r)
 
 -- the nodes that it has yet to read, none at its end
 abbrev pub nodes_left : List ℕ → Step → ℕ
 nodes_left ks (Change s) = length ks - s.next
-nodes_left ks (End r) = 0
+nodes_left ks (End w) = 0
 
 -- a walk went on
-pub record Along (d : Direction) (ks : List ℕ) (left : ℕ) (s : Reach) (r : Step) : Type 0 where
+pub record Along (d : Direction) (ks : List ℕ) (left : ℕ) (s : Reach) (r : Answer Step) : Type 0 where
   pub stands : (at : ℕ) → Reached d ks left at s → Stands d ks left at r
-  pub fewer : nodes_left ks r ≤ length ks - s.next
+  pub fewer : ForOk r (λ step. nodes_left ks step ≤ length ks - s.next)
 
 -- a walk went on past a cut that changed the direction
-pub record Resumed (d : Direction) (ks : List ℕ) (left : ℕ) (s : Reach) (r : Step) : Type 0 where
+pub record Resumed (d : Direction) (ks : List ℕ) (left : ℕ) (s : Reach) (r : Answer Step) : Type 0 where
   pub stands : (at : ℕ) → Reached d ks left at s → Changing d ks left s → Stands d ks left at r
-  pub fewer : nodes_left ks r < length ks - s.next
-
--- what the walk of the first cut's parts says of the plan: the cut itself begins the first stage
-abbrev pub answer_of : Walk → Staged
-answer_of (Next n s) = answer.Within (max 1 s)
-answer_of (Past p) = answer.Past p
+  pub fewer : ForOk r (λ step. nodes_left ks step < length ks - s.next)

@@ -1,5 +1,5 @@
 -- A cell that starts, inherits and lists: loops over the words of a cell, or over the list of another, one step at a time.
-use Rattle.state_cells.proofs.Prelude.{◌≡◌, refl, sym, ◌∙◌, ap, subst, List, ℕ, ◌+◌, ◌-◌, ◌*◌, ◌≤◌, ◌<◌, ℕ_discrete, dec_le, arith, length, get_or, set, length-set, get_or-set_same, get_or-set_other, Outside, Run, figure_in, note_in, mark_in, held, note, mark, Flagged, FlaggedBelow, Inherited, Steps, Told, Finished, figure_small, figure_plain, note_plain, figure_noted, note_noted, mark_noted, figure_flagged, note_flagged, outside_same, held_kept, note_kept}
+use Rattle.state_cells.proofs.Prelude.{◌≡◌, sym, ◌∙◌, ap, subst, List, ℕ, ◌+◌, ◌-◌, ◌*◌, ◌≤◌, ◌<◌, ℕ_discrete, dec_le, arith, length, get_or, set, length-set, get_or-set_same, get_or-set_other, Outside, Run, figure_in, note_in, mark_in, held, note, mark, Flagged, FlaggedBelow, Steps, Told, Finished, figure_small, figure_plain, note_plain, figure_noted, note_noted, mark_noted, figure_flagged, note_flagged, held_kept, note_kept}
 
 -- a cell that lies before is as it was
 pub run_held : (f : ℕ → ℕ) (at m : ℕ) (old new : List ℕ) (x s : ℕ) → x + s < at → Run f at m old new → held new x s ≡ held old x s
@@ -25,9 +25,6 @@ pub record Inherit (first second at words k : ℕ) (old new : List ℕ) : Type 0
   pub rest : Outside at (at + words) old new
 
 module _ (first second at words : ℕ) (rx : first + words ≤ at) (ry : second + words ≤ at) where
-  pub inherit_none : (xs : List ℕ) → Inherit first second at words 0 xs xs
-  inherit_none xs = record { same = λ s h. refl; kept = λ s h f. f; flags = λ i t h. absurd (omega arith); rest = outside_same at (at + words) xs }
-
   -- the entry is not above
   pub inherit_passed : (k t : ℕ) (old xs : List ℕ) → k < words → t < words → note xs first k ≡ t + 1 → held xs first t ≤ held xs second t → Inherit first second at words k old xs → Inherit first second at words (k + 1) old xs
   inherit_passed k t old xs hk ht e h p = record { same = p.same; kept = p.kept; flags = λ i u l m f. go i u l m f (ℕ_discrete i k); rest = p.rest }
@@ -75,9 +72,6 @@ module _ (first second at words : ℕ) (rx : first + words ≤ at) (ry : second 
       go i u l m f (no z) (no o) = omega (arith, ap note_in (other u o), p.flags i u (omega arith) m f)
       go i u l m f (yes z) (no o) = absurd (o (omega (arith, ap (λ i. note old first i) z, note_kept at (at + words) old xs p.rest first k (omega arith))))
 
-  pub inherit_end : (k : ℕ) (old new : List ℕ) → ((i u : ℕ) → i < words → note old first i ≡ u + 1 → i < k) → Inherit first second at words k old new → Inherited first second at words old new
-  inherit_end k old new done p = record { same = p.same; kept = p.kept; flags = λ t l f. p.flags l.0 t (done l.0 t l.1 l.2) l.2 f; rest = p.rest }
-
 -- the flags of the first s words are off, and those of their states that are to be listed are the first k entries of the list
 pub record Listing (d at shorter narrower words s k : ℕ) (old new : List ℕ) : Type 0 where
   pub most : k ≤ s
@@ -90,18 +84,6 @@ pub record Listing (d at shorter narrower words s k : ℕ) (old new : List ℕ) 
   pub rest : Outside at (at + words) old new
 
 module _ (d at shorter narrower words : ℕ) where
-  pub listing_none : (xs : List ℕ) → Listing d at shorter narrower words 0 0 xs xs
-  listing_none xs = record {
-    most = omega arith;
-    same = λ j h. refl;
-    some = λ j h. absurd (omega arith);
-    sorted = λ i j h l. absurd (omega arith);
-    none = λ j h l. absurd (omega arith);
-    left = λ j h l. refl;
-    found = λ t h. absurd (omega arith);
-    rest = outside_same at (at + words) xs;
-  }
-
   -- a word without a flag
   pub listing_passed : (s k : ℕ) (old xs : List ℕ) → s < words → note xs at s ≡ 0 → Listing d at shorter narrower words s k old xs → Listing d at shorter narrower words (s + 1) k old xs
   listing_passed s k old xs hs z p = record {

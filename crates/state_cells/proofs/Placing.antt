@@ -1,10 +1,7 @@
 -- The pieces of exactly a cell's size: what a loop over the kinds has taken, one kind more, and a kind of another size.
-use Rattle.state_cells.proofs.Prelude.{◌≡◌, Bool, List, ℕ, ◌+◌, ◌≤◌, ◌<◌, ℕ_discrete, arith, T, Job, held, Taken, grown_none, grown_then, Placed}
+use Rattle.state_cells.proofs.Prelude.{◌≡◌, Bool, List, ℕ, ◌+◌, ◌≤◌, ◌<◌, ℕ_discrete, arith, T, Job, held, Taken, grown_then, Placed}
 
 module _ (le : ℕ → ℕ → Bool) (at words : ℕ) (J : Job) (own : ℕ → ℕ) (l w : ℕ) where
-  pub placed_none : (xs : List ℕ) → Placed le J own 0 l w at words xs xs
-  placed_none xs = record { grown = grown_none le at words xs; taken = λ i h. absurd (omega arith); low = λ f r s low. low }
-
   -- a kind of another size is passed over
   pub placed_other : (i : ℕ) (old new : List ℕ) → ((J.size i).0 ≡ l → (J.size i).1 ≡ w → ⊥) → Placed le J own i l w at words old new → Placed le J own (i + 1) l w at words old new
   placed_other i old new h p = record {

@@ -22,10 +22,10 @@ pub use Rattle.promises.specs.declared.Direction.TheVariants.{Length, Width}
 pub use Rattle.state_joins.proofs.Joining.{entry_state, held_kept, listed_kept, note_kept, past_end}
 pub use Rattle.state_joins.specs.Joins.{CutAt, Cuttable, Marked, Ready, Served}
 pub use Rattle.states.proofs.Carries.{summed_kept}
-pub use Rattle.states.proofs.Growing.{growing_kept, grown_none, grown_then, last_state, order_of, outside_chain, outside_same, taken_none, under_zero}
+pub use Rattle.states.proofs.Growing.{growing_kept, grown_none, grown_then, last_state, order_of, outside_chain, outside_same, under_zero}
 pub use Rattle.states.proofs.Noted.{figure_flagged, figure_noted, figure_plain, figure_small, mark_noted, note_flagged, note_noted, note_plain}
 pub use Rattle.states.proofs.Ties.{one_digit}
-pub use Rattle.states.proofs.Topping.{topped_none, topped_set, topped_then}
+pub use Rattle.states.proofs.Topping.{topped_set, topped_then}
 pub use Rattle.states.specs.States.{Digits, Flagged, Growing, Grown, Low, Rises, Summed, Taken, Topped, cell, figure_in, held, mark, mark_in, note, note_in, under}
 pub use Rattle.table.proofs.Across.{across, across_joins, more_side, piece_most, state_above, state_low}
 pub use Rattle.table.proofs.Complete.{along, complete, side_covered}

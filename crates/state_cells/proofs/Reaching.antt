@@ -134,10 +134,6 @@ levelled_all {words} {n} {flat} {high} {f} one h same w = record { more = w.more
 pub reach_is : {r : ℕ} (words flat : ℕ) → r ≡ min words (reach_of flat) → r < words → (r ≡ reach_of flat) × (reach_of flat < words)
 reach_is words flat e h = (omega arith, omega arith)
 
--- a cell that is made at all its states, of which none is out of reach
-pub made_whole : {J : Job} {le : ℕ → ℕ → Bool} {own : ℕ → ℕ} {normal_lengths normal_widths : List ℕ} {words flat i j : ℕ} {xs : List ℕ} → words ≤ reach_of flat → MadeTo J le own normal_lengths normal_widths words words i j xs → Made J le own normal_lengths normal_widths words flat i j xs
-made_whole h w = record { all = w; short = λ k l. (omega (arith, w.notes k l), λ m. absurd (omega arith)) }
-
 module _ {J : Job} {own : ℕ → ℕ} {normal_lengths length_floors normal_widths width_floors blocks : List ℕ} {d words stride a b length_half_end width_half_end at column flat : ℕ} {t0 : List ℕ} (spot : Spot J own normal_lengths length_floors normal_widths width_floors blocks d words stride a b length_half_end width_half_end at column flat t0) where
   -- the place for all states
   pub spot_whole : SpotTo J own normal_lengths length_floors normal_widths width_floors blocks d words words stride a b length_half_end width_half_end at column flat t0

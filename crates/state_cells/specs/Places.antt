@@ -20,10 +20,6 @@ use Rattle.state_cells.specs.Cells.{Level}
 abbrev pub shape_of : TableSize → ℕ → ℕ → Shape
 shape_of size d words = record { length = size.length; width = size.width; count = size.count; length_count = size.rows; columns = size.columns; d = d; words = words; stride = size.columns * words }
 
--- the same shape, of the first n words of each cell
-abbrev pub first_states : Shape → ℕ → Shape
-first_states shape n = record { length = shape.length; width = shape.width; count = shape.count; length_count = shape.length_count; columns = shape.columns; d = shape.d; words = n; stride = shape.stride }
-
 -- the cells of a cell's width, along the lengths
 abbrev pub length_line : Shape → Place → Line
 length_line shape place = record { index = place.a; half_end = place.length_half_end; at = place.at; base = place.column; stride = shape.stride; skip = 2 }

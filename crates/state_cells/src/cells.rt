@@ -9,10 +9,10 @@ ghost use Rattle.state_joins.specs.Joins.{Ready};
 ghost use Rattle.state_cells.specs.Cells.{Startable, Levelled, Inherited, Placed, Told, Finished, FlaggedBelow};
 ghost use Rattle.state_cells.specs.Places.{job_in, length_line, width_line, tabled, reach_of, MadeTo, Made, Spot, SpotTo};
 
-use crate::shape::{Shape, first_states};
+use crate::shape::Shape;
 use state_joins::{Line, cut};
-use states::{Cell, figure, note, past, take};
-use table::{greater, set_run, widen};
+use states::{Cell, FLAG, figure, flagged, listed, take};
+use table::{greater, set_run};
 
 // The first words of the cell become the greater of the figures of the cells before it.
 fn start(table: &mut [u64], at: usize, first: usize, second: usize, words: usize)
@@ -50,14 +50,12 @@ pub fn inherit(
 {
     let mut high = top;
     for k in 0..words {
-        let listed = note(table[first + k]);
-        if listed == 0 {
+        let Some(t) = listed(table[first + k]) else {
             return high;
-        }
-        let t = listed - 1;
+        };
         if figure(table[second + t]) < figure(table[first + t]) {
-            table[at + t] = figure(table[at + t]) + 2199023255552;
-            high = past(high, t);
+            table[at + t] = figure(table[at + t]) + FLAG;
+            high = high.max(t + 1);
         }
     }
     high
@@ -79,7 +77,7 @@ fn place_piece(
     let cell = Cell {
         d: shape.d,
         words: shape.words,
-        at: at,
+        at,
     };
     let t = state as usize;
     if t < cell.words {
@@ -106,12 +104,10 @@ pub fn place_pieces(
     let mut high = top;
     for i in 0..shape.count {
         let piece = 5 * i;
-        if pieces[piece] == l {
-            if pieces[piece + 1] == w {
-                let price = pieces[piece + 2];
-                let state = pieces[piece + 3];
-                high = place_piece(table, blocks, shape, at, state, price, high);
-            }
+        if pieces[piece] == l && pieces[piece + 1] == w {
+            let price = pieces[piece + 2];
+            let state = pieces[piece + 3];
+            high = place_piece(table, blocks, shape, at, state, price, high);
         }
     }
     high
@@ -122,16 +118,7 @@ fn starts(table: &[u64], d: usize, at: usize, s: usize, v: u64) -> bool
     requires { at + s < length table.now }
     ensures { result ≡ false → (d ≡ 0) × (1 ≤ s) × (v ≤ held table.now at (s - 1)) }
 {
-    if 0 < d {
-        return true;
-    }
-    if s == 0 {
-        return true;
-    }
-    if v <= figure(table[at + (s - 1)]) {
-        return false;
-    }
-    true
+    0 < d || s == 0 || figure(table[at + (s - 1)]) < v
 }
 
 // The mark of state s with the figure v: 2 where that is not above the cell from `shorter` on, else 1 where it is not above the cell from
@@ -166,17 +153,17 @@ pub fn finish(
     requires { (at + words ≤ length table.old) × (words ≤ 65536) × FlaggedBelow at words top table.old × (shorter + words ≤ at) × (narrower + words ≤ at) }
     ensures { Finished d at shorter narrower words table.old table.new }
 {
-    let mut k: usize = 0;
+    let mut k = 0;
     for s in 0..top {
         let word = table[at + s];
-        if 0 < note(word) {
+        if flagged(word) {
             let v = figure(word);
             table[at + s] = v;
             if starts(&table[..], d, at, s, v) {
                 let told = tell(&table[..], d, shorter, narrower, s, v);
                 let entry = 4 * (s as u64) + 1 + told;
-                table[at + k] = figure(table[at + k]) + 2199023255552 * entry;
-                k = k + 1;
+                table[at + k] = figure(table[at + k]) + FLAG * entry;
+                k += 1;
             }
         }
     }
@@ -187,10 +174,7 @@ pub fn finish(
 fn flat_after(d: usize, words: usize, flat: usize, top: usize) -> usize
     ensures { ((d ≡ 0) × (result ≡ max flat top)) ⊎ (result ≡ words) }
 {
-    if 0 < d {
-        return words;
-    }
-    if flat < top { top } else { flat }
+    if 0 < d { words } else { flat.max(top) }
 }
 
 // The place of a cell: the indices of its normal length and width, the ends of their first halves, its word, the word of the cell of
@@ -264,8 +248,8 @@ fn make_states(
     begin(table, at, shorter, narrower, words, place.flat);
     let mut top = inherit(table, at, narrower, shorter, words, 0);
     top = inherit(table, at, shorter, narrower, words, top);
-    let l = widen(normal_lengths[a]);
-    let w = widen(normal_widths[b]);
+    let l = u32::from(normal_lengths[a]);
+    let w = u32::from(normal_widths[b]);
     top = place_pieces(table, pieces, blocks, shape, at, l, w, top);
     let along = length_line(shape, place);
     top = cut(
@@ -294,15 +278,6 @@ fn make_states(
     flat_after(shape.d, words, place.flat, top)
 }
 
-// The number of states below which a cell is made one by one.
-fn reached(words: usize, flat: usize) -> usize
-    requires { flat ≤ words × (words ≤ 65536) }
-    ensures { result ≡ min words (reach_of flat) }
-{
-    let reach = 2 * flat + 1;
-    if words < reach { words } else { reach }
-}
-
 // A cell of the table from the cells before it in length and width. Past the states in reach its figures are the same: there the last one
 // is written, once. The state from which on the figures of this one too are the same is handed on.
 pub fn make_cell(
@@ -322,7 +297,7 @@ pub fn make_cell(
         × Levelled shape.words place.flat result (tabled (job_in shape pieces.now) (under blocks.now shape.d) (listed_weight pieces.now) normal_lengths.now normal_widths.now place.a place.b) }
 {
     let words = shape.words;
-    let reach = reached(words, place.flat);
+    let reach = words.min(2 * place.flat + 1);
     if words <= reach {
         return make_states(
             table,
@@ -344,7 +319,10 @@ pub fn make_cell(
         normal_widths,
         floors,
         &digit,
-        first_states(shape, reach),
+        Shape {
+            words: reach,
+            ..shape
+        },
         place,
         words,
     );

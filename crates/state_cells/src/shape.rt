@@ -1,7 +1,7 @@
 // What every step of the fill is lent beside its lists and the array of pieces: the numbers below. The state of a piece is the array's entry
 // for its weight.
 ghost use Rattle.std.specs.Prelude.{◌≡◌, ◌≤◌};
-ghost use Rattle.state_cells.specs.Places.{shape_of, first_states};
+ghost use Rattle.state_cells.specs.Places.{shape_of};
 
 use table::TableSize;
 
@@ -30,25 +30,9 @@ pub fn shape_of(size: TableSize, d: usize, words: usize) -> Shape
         width: size.width,
         count: size.count as usize,
         length_count: size.rows as usize,
-        columns: columns,
-        d: d,
-        words: words,
+        columns,
+        d,
+        words,
         stride: columns * words,
-    }
-}
-
-// The same shape, of the first n words of each cell.
-pub fn first_states(shape: Shape, n: usize) -> Shape
-    ensures { result ≡ first_states shape n }
-{
-    Shape {
-        length: shape.length,
-        width: shape.width,
-        count: shape.count,
-        length_count: shape.length_count,
-        columns: shape.columns,
-        d: shape.d,
-        words: n,
-        stride: shape.stride,
     }
 }

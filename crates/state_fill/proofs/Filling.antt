@@ -1,5 +1,5 @@
 -- Rows of made cells: the first row and the first cell of each row hold 0, one cell more, one row more, and the table without its lists.
-use Rattle.state_fill.proofs.Prelude.{◌≡◌, refl, sym, ◌∙◌, ap, ap₂, subst, inl, List, ℕ, ◌+◌, ◌*◌, ◌/◌, ◌%◌, ◌≤◌, ◌<◌, mul-le-mul_right, mod-lt, div-add-mod', div-lt_iff_lt-mul, ℕ_discrete, dec_le, arith, length, get_or, Length, Width, Job, InTableRange, listed_weight, positions_first, positions_some, position_count, Kept, Positions, Outside, Run, HalfReady, Half, Axis, cell_before, words_past, half_ready, half_next, entry_is, positions_axis, figure_at, figure_in, note_in, held, note, under, Digits, Summed, FirstRow, cell, Figures, Level, Levelled, tabled, Made, Rows, Cells, LevelRows, LevelCells, CellsLent, FlatState, Spot, Counted, PastPieces, RowSpot, Bare, Plain, figure_plain, note_plain, plain_word, no_side, outside_same, order_of, summed_before, made_same, made_kept, made_later, level_later}
+use Rattle.state_fill.proofs.Prelude.{◌≡◌, refl, sym, ◌∙◌, ap, ap₂, subst, inl, List, ℕ, ◌+◌, ◌*◌, ◌/◌, ◌%◌, ◌≤◌, ◌<◌, mul-le-mul_right, mod-lt, div-add-mod', div-lt_iff_lt-mul, ℕ_discrete, dec_le, arith, length, get_or, Length, Width, Job, InTableRange, positions_first, positions_some, position_count, Kept, Positions, Outside, Run, HalfReady, Half, Axis, cell_before, words_past, half_ready, half_next, entry_is, positions_axis, figure_at, figure_in, note_in, held, note, under, Digits, Summed, FirstRow, cell, Figures, Level, Levelled, tabled, Made, Rows, Cells, LevelRows, LevelCells, CellsLent, FlatState, Counted, RowSpot, Bare, Plain, figure_plain, note_plain, plain_word, no_side, outside_same, order_of, summed_before, made_same, made_kept, made_later, level_later}
 
 -- there is a state
 some_state : {blocks : List ℕ} {d words : ℕ} → Digits blocks d words → 1 ≤ words
@@ -13,14 +13,6 @@ lent_kept e w = record { range = w.range; digits = w.digits; lengths = w.lengths
 -- a later state serves too
 flat_later : {J : Job} {own : ℕ → ℕ} {d words flat high : ℕ} → flat ≤ high → high ≤ words → FlatState J own d words flat → FlatState J own d words high
 flat_later h m w = record { most = m; weighed = λ i k l. omega (arith, w.weighed i k l); several = λ k. omega (arith, w.several k) }
-
--- one piece more has its state below a state no earlier, if it has one
-pub pieces_more : (pieces : List ℕ) (i : ℕ) {words flat next : ℕ} → flat ≤ next → (listed_weight pieces i < words → listed_weight pieces i < next) → PastPieces pieces i words flat → PastPieces pieces (i + 1) words next
-pieces_more pieces i {words} {flat} {next} h own w j l m = go (ℕ_discrete j i)
-  where
-    go : Dec (j ≡ i) → listed_weight pieces j < next
-    go (yes q) = rw q (own (rw q at m))
-    go (no q) = omega (arith, w j (omega arith) m)
 
 -- cell b of row a ends within the table
 pub cell_room : (J : Job) (words a b room : ℕ) → a < position_count J Length → b < position_count J Width
@@ -178,11 +170,7 @@ pub strip_stop : (x words k : ℕ) (old new : List ℕ) → k < words → ((i j 
 strip_stop x words k old new h ended z w = run_stop (λ s. held old x s) x k words old new (omega arith)
     (λ j l m. sym (plain_word (get_or old (x + j) 0) (ended k j l m (sym (ap note_in (w.rest.after (x + k) (omega arith))) ∙ z)))) w
 
--- the lists of the first i cells are off
-pub plain_none : (words : ℕ) (xs : List ℕ) → Plain 0 words xs xs
-plain_none words xs = record { plain = λ i c h l. absurd (omega arith); rest = λ i h. refl }
-
--- one cell more
+-- the list of one cell more is off
 pub plain_more : (i words x : ℕ) (old xs new : List ℕ) → x ≡ i * words → Run (λ s. held xs x s) x words xs new → Plain i words old xs → Plain (i + 1) words old new
 plain_more i words x old xs new e w p = record {
   plain = λ j c h l. go j c h l (ℕ_discrete j i);
@@ -192,13 +180,6 @@ plain_more i words x old xs new e w p = record {
     go : (j c : ℕ) → j < i + 1 → c < words → Dec (j ≡ i) → get_or new (j * words + c) 0 ≡ held old (j * words) c
     go j c h l (no q) = w.rest.before (j * words + c) (omega (arith, e, cell_before j i words (omega arith))) ∙ p.plain j c (omega arith) l
     go j c h l (yes q) = rw (q, ← e) (w.here c l ∙ ap figure_in (p.rest (x + c) (omega (arith, e))))
-
--- the cells from i on are still bare
-pub bare_left : (s i words x : ℕ) (old xs : List ℕ) → x ≡ i * words → i < s → Bare s words old → Plain i words old xs → (j k : ℕ) → j ≤ k → k < words → note xs x j ≡ 0 → note xs x k ≡ 0
-bare_left s i words x old xs e h b p j k l m z =
-    let f = ap note_in (p.rest (x + j) (omega (arith, e))) in
-    let g = ap note_in (p.rest (x + k) (omega (arith, e))) in
-    g ∙ rw (← e) at (b i j k h l m (rw (← e) (sym f ∙ z)))
 
 -- the cells of row a below cell b are made, no word outside of the row has changed since the loop began, and `width_half_end` serves for
 -- the half of entry b
@@ -258,25 +239,7 @@ module _ {J : Job} {own : ℕ → ℕ} {normal_lengths length_floors normal_widt
     pub row_half : HalfReady normal_widths width_half_end b
     row_half = half_ready normal_widths width_floors columns row_axis width_half_end b so.halved.0 so.halved.1 hb so.half
 
-    -- the place of the next cell
-    pub row_spot : (half_end : ℕ) → Half normal_widths b half_end → Spot J own normal_lengths length_floors normal_widths width_floors blocks d words stride a b length_half_end half_end (at + column) column high t2
-    row_spot half_end half = record {
-      lent = lent_kept (so.same ∙ one) spot.lent;
-      length_in = (spot.length_in.0, omega (arith, spot.length_in.1, spot.counted.lengths));
-      width_in = (so.inside.0, omega (arith, spot.counted.widths));
-      length_half = spot.length_half;
-      width_half = half;
-      stride_is = spot.counted.stride_is ∙ ap (λ columns. columns * words) spot.counted.widths;
-      at_is = omega (arith, spot.at_is, so.column_is);
-      column_is = so.column_is;
-      rows = so.rows;
-      summed = so.summed;
-      cells = so.cells;
-      flat_state = so.flat_state;
-      level_rows = so.level_rows;
-      level_cells = so.level_cells;
-    }
-
+    -- the next cell lies within the table
     pub row_fits : at + column + words ≤ length t0
     row_fits = omega (arith, so.column_is, (row_room b hb).0)
 

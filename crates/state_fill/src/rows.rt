@@ -10,7 +10,7 @@ ghost use Rattle.state_cells.specs.Places.{job_in, Rows, LevelRows, CellsLent, F
 ghost use Rattle.state_fill.specs.Tables.{Counted, PastPieces, RowSpot, Bare, Plain};
 
 use state_cells::{Place, Shape, make_cell};
-use states::{figure, first_row, note, past};
+use states::{figure, first_row, flagged};
 use table::{half, set_run};
 
 // The place of a row: the index of its normal length, the end of that one's first half, its word, and the state from which on the
@@ -41,18 +41,18 @@ fn fill_row(
         × LevelRows (job_in shape pieces.now) (under blocks.now shape.d) (listed_weight pieces.now) normal_lengths.now normal_widths.now shape.words result (row.a + 1) }
 {
     set_run(table, row.at, shape.words, 0);
-    let mut half_end: usize = 1;
+    let mut half_end = 1;
     let mut column = shape.words;
     let mut flat = row.flat;
     for b in 1..shape.columns {
         half_end = half(normal_widths, half_end, b);
         let place = Place {
             a: row.a,
-            b: b,
+            b,
             length_half_end: row.half_end,
             width_half_end: half_end,
-            flat: flat,
-            column: column,
+            flat,
+            column,
             at: row.at + column,
         };
         flat = make_cell(
@@ -65,7 +65,7 @@ fn fill_row(
             shape,
             place,
         );
-        column = column + shape.words;
+        column += shape.words;
     }
     flat
 }
@@ -76,10 +76,11 @@ fn strip(table: &mut [u64], x: usize, words: usize)
     ensures { Run (λ s. held table.old x s) x words table.old table.new }
 {
     for k in 0..words {
-        if note(table[x + k]) == 0 {
+        let word = table[x + k];
+        if !flagged(word) {
             return;
         }
-        table[x + k] = figure(table[x + k]);
+        table[x + k] = figure(word);
     }
 }
 
@@ -88,23 +89,9 @@ pub fn strip_all(table: &mut [u64], s: usize, words: usize)
     requires { (s * words ≤ length table.old) × Bare s words table.old }
     ensures { Plain s words table.old table.new }
 {
-    let mut x: usize = 0;
     for i in 0..s {
-        strip(table, x, words);
-        x = x + words;
+        strip(table, i * words, words);
     }
-}
-
-// The number past the state of a piece, where it has one, or `flat` where that is more.
-fn past_piece(flat: usize, state: u32, words: usize) -> usize
-    requires { (flat ≤ words) × (words ≤ 65536) }
-    ensures { (flat ≤ result) × (result ≤ words) × (state < words → state < result) }
-{
-    let t = state as usize;
-    if t < words {
-        return past(flat, t);
-    }
-    flat
 }
 
 // The state to begin with: past that of every piece that has one. Where states have several digits, it is past all states.
@@ -115,9 +102,12 @@ fn first_flat(pieces: &[u32; 640], count: usize, d: usize, words: usize) -> usiz
     if 0 < d {
         return words;
     }
-    let mut flat: usize = 0;
+    let mut flat = 0;
     for i in 0..count {
-        flat = past_piece(flat, pieces[5 * i + 3], words);
+        let state = pieces[5 * i + 3] as usize;
+        if state < words {
+            flat = flat.max(state + 1);
+        }
     }
     flat
 }
@@ -139,15 +129,15 @@ pub fn fill(
 {
     first_row(table, blocks, shape.d, shape.words, shape.stride);
     let mut at = shape.stride;
-    let mut half_end: usize = 1;
+    let mut half_end = 1;
     let mut flat = first_flat(pieces, shape.count, shape.d, shape.words);
     for a in 1..shape.length_count {
         half_end = half(normal_lengths, half_end, a);
         let row = Row {
-            a: a,
-            half_end: half_end,
-            at: at,
-            flat: flat,
+            a,
+            half_end,
+            at,
+            flat,
         };
         flat = fill_row(
             table,
@@ -159,7 +149,7 @@ pub fn fill(
             shape,
             row,
         );
-        at = at + shape.stride;
+        at += shape.stride;
     }
     set_run(table, 0, shape.words, 0);
     strip_all(table, shape.length_count * shape.columns, shape.words);

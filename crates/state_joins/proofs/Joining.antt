@@ -1,6 +1,6 @@
 -- Joining the lists of two cells: what a loop over a list has taken, one entry more, and the end of the list. The cells that are read lie
 -- before the one that is made, and do not change.
-use Rattle.state_joins.proofs.Prelude.{◌≡◌, sym, ◌∙◌, ap, Bool, List, ℕ, ◌+◌, ◌-◌, ◌*◌, ◌≤◌, ◌<◌, ℕ_discrete, dec_le, arith, T, length, get_or, set, get_or-set_same, get_or-set_other, Outside, remainder, Cuts, remainder_is, figure_in, note_in, mark_in, held, note, mark, Rises, Low, Grown, Taken, Listed, Entry, Marked, Served, Ready, JoinedWith, Joined, Numbers, Among, Gathered, Cuttable, CutAt, grown_none, grown_then}
+use Rattle.state_joins.proofs.Prelude.{◌≡◌, sym, ◌∙◌, ap, Bool, List, ℕ, ◌+◌, ◌-◌, ◌*◌, ◌≤◌, ◌<◌, ℕ_discrete, dec_le, arith, T, length, length-take-le, get_or, get_or-take, set, take, get_or-set_same, get_or-set_other, Outside, remainder, remainder_is, figure_in, note_in, mark_in, held, note, mark, Rises, Low, Grown, Taken, Listed, Entry, Marked, Served, Ready, JoinedWith, Joined, Among, Gathered, Cuttable, CutAt, grown_then}
 
 module _ (at end : ℕ) (old new : List ℕ) (kept : Outside at end old new) where
   pub held_kept : (x s : ℕ) → x + s < at → held new x s ≡ held old x s
@@ -31,13 +31,9 @@ module _ (at end : ℕ) (old new : List ℕ) (kept : Outside at end old new) whe
     sorted = λ j k l m z. omega (arith, note_kept x j (omega (arith, r.before)), note_kept x k (omega (arith, r.before)), r.sorted j k l m (omega (arith, note_kept x k (omega (arith, r.before)))));
   }
 
--- a cell that is ready is so for one that is made further on
-pub ready_later : {xs : List ℕ} {x words at end : ℕ} → at ≤ end → Ready xs x words at → Ready xs x words end
-ready_later h r = record { before = omega (arith, r.before); small = r.small; most = r.most; notes = r.notes; ended = r.ended; sorted = r.sorted }
-
 -- an entry of a list is a state
-pub entry_state : {x words at end : ℕ} {old new : List ℕ} → Ready old x words at → Outside at end old new → (k r : ℕ) → k < words → r ≡ note new x k → r - 1 < words
-entry_state {x} {words} {at} {end} {old} {new} ready rest k r h e = omega (arith, ready.notes k h, note_kept at end old new rest x k (omega (arith, ready.before)))
+pub entry_state : {x words at end : ℕ} {old new : List ℕ} → Ready old x words at → Outside at end old new → (k t : ℕ) → k < words → note new x k ≡ t + 1 → t < words
+entry_state {x} {words} {at} {end} {old} {new} ready rest k t h e = omega (arith, ready.notes k h, note_kept at end old new rest x k (omega (arith, ready.before)))
 
 -- an entry past the end of a list is none
 pub past_end : (xs : List ℕ) (x words at i k u : ℕ) → Ready xs x words at → i < words → note xs x k ≡ 0 → note xs x i ≡ u + 1 → i < k
@@ -55,14 +51,6 @@ past_states xs x words at i k t u w r h m p e l = go (dec_le k i)
     go (yes z) = absurd (omega (arith, r.sorted k i z h (omega arith)))
     go (no z) = omega arith
 
--- where a number of a list of states and t are past all states together, so are the later ones
-pub past_numbers : (words count : ℕ) (list : List ℕ) (k t i : ℕ) → Numbers words count list → words ≤ t + get_or list k 0 → i < count → t + get_or list i 0 < words → i < k
-past_numbers words count list k t i n p h l = go (dec_le k i)
-  where
-    go : Dec (k ≤ i) → i < k
-    go (yes z) = absurd (omega (arith, n.sorted k i z h))
-    go (no z) = omega arith
-
 -- one cut: its first part can be read, and so can its second, at the entry that the floors give
 module _ {blocks positions floors : List ℕ} {d words a i base stride at : ℕ} {xs : List ℕ} (given : Cuttable blocks positions floors d words a i (i + 1) base stride at xs) where
   pub first_part : Ready xs (base + i * stride) words at
@@ -73,17 +61,6 @@ module _ {blocks positions floors : List ℕ} {d words a i base stride at : ℕ}
       let other = remainder_is positions floors a i whole part y e f g in
       (other, rw other (given.cuts.earlier i given.first (omega arith)))
 
--- cuts at fewer entries
-pub cuts_fewer : (positions floors : List ℕ) (a j k : ℕ) → 1 ≤ j → j ≤ k → Cuts positions floors a k → Cuts positions floors a j
-cuts_fewer positions floors a j k h l c = record {
-  least = h;
-  most = omega (arith, c.most);
-  listed = c.listed;
-  mapped = c.mapped;
-  part = λ i p q. c.part i p (omega arith);
-  earlier = λ i p q. c.earlier i p (omega arith);
-}
-
 -- of the first k entries of the list of the cell from x on, those with another mark than `skip` are the first n numbers of `list`
 pub record Gathering (skip x k n : ℕ) (xs list : List ℕ) : Type 0 where
   pub most : n ≤ 512
@@ -92,9 +69,6 @@ pub record Gathering (skip x k n : ℕ) (xs list : List ℕ) : Type 0 where
   pub found : (i u : ℕ) → i < k → Entry skip xs x i u → Among n list u
 
 module _ (skip x words end : ℕ) (xs : List ℕ) (ready : Ready xs x words end) where
-  pub gather_none : (list : List ℕ) → Gathering skip x 0 0 xs list
-  gather_none list = record { most = omega arith; from = λ i h. absurd (omega arith); sorted = λ i j h l. absurd (omega arith); found = λ i u h. absurd (omega arith) }
-
   -- an entry with the mark
   pub gather_passed : (k n : ℕ) (list : List ℕ) → mark xs x k ≡ skip → Gathering skip x k n xs list → Gathering skip x (k + 1) n xs list
   gather_passed k n list e p = record {
@@ -147,6 +121,17 @@ module _ (skip x words end : ℕ) (xs : List ℕ) (ready : Ready xs x words end)
     found = λ u m. p.found m.0 u (done m.0 u m.1 m.2.0) m.2;
   }
 
+-- so are the numbers before the end alone
+pub gathered_taken : (skip x words n : ℕ) (xs list : List ℕ) → n ≤ length list → Gathered skip x words n xs list → Gathered skip x words (length (take n list)) xs (take n list)
+gathered_taken skip x words n xs list h p = rw (length-take-le n list h) (record {
+  numbers = record {
+    most = p.numbers.most;
+    states = λ i l. omega (arith, get_or-take n list i 0 l, p.numbers.states i l);
+    sorted = λ i j l m. omega (arith, get_or-take n list i 0 (omega arith), get_or-take n list j 0 m, p.numbers.sorted i j l m);
+  };
+  found = λ u m. (let q = p.found u m in (q.0, q.1, get_or-take n list q.0 0 q.1 ∙ q.2));
+})
+
 -- entry i of the list of the cell from x on is state u
 abbrev pub At : List ℕ → ℕ → ℕ → ℕ → Type 0
 At xs x i u = note xs x i ≡ u + 1
@@ -161,9 +146,6 @@ module _ (le : ℕ → ℕ → Bool) (at words : ℕ) where
     pub grown : Grown le at words old new
     pub sums : (i u : ℕ) → i < k → E i u → t + u < words → T (le t (t + u)) → v + held old second u ≤ held new at (t + u)
     pub low : (f : ℕ → ℕ) → Rises le words f → ((u : ℕ) → u < words → t + u < words → T (le t (t + u)) → v + held old second u ≤ f (t + u)) → Low f at words old → Low f at words new
-
-  pub with_none : (E : ℕ → ℕ → Type 0) (t v second : ℕ) (xs : List ℕ) → With E t v second 0 xs xs
-  with_none E t v second xs = record { grown = grown_none le at words xs; sums = λ i u h. absurd (omega arith); low = λ f r s l. l }
 
   pub with_more : (E : ℕ → ℕ → Type 0) (t v second k u w : ℕ) (old mid new : List ℕ) → second + words ≤ at → u < words → ((z : ℕ) → E k z → u ≡ z) → w ≡ v + held mid second u → With E t v second k old mid → Taken le at words t u w mid new → With E t v second (k + 1) old new
   with_more E t v second k u w old mid new room hu e f p q = record {
@@ -181,45 +163,20 @@ module _ (le : ℕ → ℕ → Bool) (at words : ℕ) where
           let c : u ≡ z = e z (rw same at g) in
           omega (arith, ap (λ u. held old second u) c, ap (λ u. held new at (t + u)) c, value, q.taken (omega arith) (rw c b))
 
-  -- at the end of the list, or where no later entry is a state together with t
-  pub with_end : (E : ℕ → ℕ → Type 0) (some : ℕ → Type 0) (t v second k : ℕ) (old new : List ℕ) → ((u : ℕ) → some u → t + u < words → (i : ℕ) × (i < k) × E i u) → With E t v second k old new → JoinedWith le at words t v second some old new
-  with_end E some t v second k old new done p = record {
-    grown = p.grown;
-    sums = λ u l h b. (let q = done u l h in p.sums q.0 u q.1 q.2 h b);
-    low = p.low;
-  }
-
-  -- nothing can be gained: with its greatest figure, the cell from `second` on gives no more than state t has
-  pub with_skip : (some : ℕ → Type 0) (t v second : ℕ) (xs : List ℕ) → Ready xs second words at → Rises le words (held xs at) → v + held xs second (words - 1) ≤ held xs at t → JoinedWith le at words t v second some xs xs
-  with_skip some t v second xs ready rises h = record {
-    grown = grown_none le at words xs;
-    sums = λ u l k b. omega (arith, ready.most u (omega arith), rises t (t + u) k b);
-    low = λ f r s l. l;
-  }
-
   -- the same for the list of the cell from `second` on
   pub with_listed : (t v second k u w : ℕ) (old mid new : List ℕ) → second + words ≤ at → k < words → u < words → note mid second k ≡ u + 1 → w ≡ v + held mid second u → With (At old second) t v second k old mid → Taken le at words t u w mid new
       → With (At old second) t v second (k + 1) old new
   with_listed t v second k u w old mid new room hk hu e f p q = with_more (At old second) t v second k u w old mid new room hu (λ z g. omega (arith, note_kept at (at + words) old mid p.grown.rest second k (omega arith))) f p q
 
-  pub with_listed_end : (t v second k : ℕ) (old new : List ℕ) → ((i u : ℕ) → i < words → note old second i ≡ u + 1 → t + u < words → i < k) → With (At old second) t v second k old new → JoinedWith le at words t v second (Listed old second words) old new
-  with_listed_end t v second k old new done p = with_end (At old second) (Listed old second words) t v second k old new (λ u l h. (l.0, done l.0 u l.1 l.2 h, l.2)) p
-
   -- and for the numbers of a list of states
   pub with_number : (list : List ℕ) (t v second k u w : ℕ) (old mid new : List ℕ) → second + words ≤ at → u < words → u ≡ get_or list k 0 → w ≡ v + held mid second u → With (Number list) t v second k old mid → Taken le at words t u w mid new → With (Number list) t v second (k + 1) old new
   with_number list t v second k u w old mid new room hu e f p q = with_more (Number list) t v second k u w old mid new room hu (λ z g. e ∙ g) f p q
-
-  pub with_number_end : (list : List ℕ) (count t v second k : ℕ) (old new : List ℕ) → ((i : ℕ) → i < count → t + get_or list i 0 < words → i < k) → With (Number list) t v second k old new → JoinedWith le at words t v second (Among count list) old new
-  with_number_end list count t v second k old new done p = with_end (Number list) (Among count list) t v second k old new (λ u l h. (l.0, done l.0 l.1 (omega (arith, l.2)), l.2)) p
 
   -- the first k entries of the list of the cell from `first` on are joined with some states; E i t: entry i is state t
   pub record Join (E : ℕ → ℕ → Type 0) (some : ℕ → Type 0) (first second k : ℕ) (old new : List ℕ) : Type 0 where
     pub grown : Grown le at words old new
     pub sums : (i t u : ℕ) → i < k → E i t → some u → t + u < words → T (le t (t + u)) → held old first t + held old second u ≤ held new at (t + u)
     pub low : (f : ℕ → ℕ) → Rises le words f → ((t u : ℕ) → t < words → u < words → t + u < words → T (le t (t + u)) → held old first t + held old second u ≤ f (t + u)) → Low f at words old → Low f at words new
-
-  pub join_none : (E : ℕ → ℕ → Type 0) (some : ℕ → Type 0) (first second : ℕ) (xs : List ℕ) → Join E some first second 0 xs xs
-  join_none E some first second xs = record { grown = grown_none le at words xs; sums = λ i t u h. absurd (omega arith); low = λ f r s l. l }
 
   -- an entry that is not to be read
   pub join_passed : (E : ℕ → ℕ → Type 0) (some : ℕ → Type 0) (first second k : ℕ) (old xs : List ℕ) → ((t : ℕ) → E k t → ⊥) → Join E some first second k old xs → Join E some first second (k + 1) old xs
@@ -266,9 +223,6 @@ module _ (le : ℕ → ℕ → Bool) (at words : ℕ) where
   join_listed first second k t v old mid new rx ry hk ht e f p q = join_more (At old first) (Listed old second words) (Listed mid second words) first second k t v old mid new rx ry ht
       (λ z g. omega (arith, note_kept at (at + words) old mid p.grown.rest first k (omega arith))) (λ u l. listed_kept at (at + words) old mid p.grown.rest second words u ry l) f p q
 
-  pub join_listed_end : (first second k : ℕ) (old new : List ℕ) → ((i t : ℕ) → i < words → note old first i ≡ t + 1 → i < k) → Join (At old first) (Listed old second words) first second k old new → Joined le at words first second (Listed old first words) (Listed old second words) old new
-  join_listed_end first second k old new done p = join_end (At old first) (Listed old second words) (Listed old first words) first second k old new (λ t l. (l.0, done l.0 t l.1 l.2, l.2)) p
-
   -- and where those with another mark than `skip` are
   module _ (skip first second : ℕ) where
     pub join_marked : (k t v count : ℕ) (old mid new list : List ℕ) → first + words ≤ at → second + words ≤ at → k < words → t < words → note mid first k ≡ t + 1 → v ≡ held mid first t → Gathered skip second words count old list → Join (Entry skip old first) (Marked skip old second words) first second k old mid
@@ -282,29 +236,8 @@ module _ (le : ℕ → ℕ → Bool) (at words : ℕ) where
     pub join_marked_end : (k : ℕ) (old new : List ℕ) → ((i t : ℕ) → i < words → note old first i ≡ t + 1 → i < k) → Join (Entry skip old first) (Marked skip old second words) first second k old new → Joined le at words first second (Marked skip old first words) (Marked skip old second words) old new
     join_marked_end k old new done p = join_end (Entry skip old first) (Marked skip old second words) (Marked skip old first words) first second k old new (λ t l. (l.0, done l.0 t l.1 l.2.0, l.2)) p
 
-  -- where more states are joined, so are fewer
-  module _ (d skip first second : ℕ) (old new : List ℕ) where
-    pub joined_marked : Joined le at words first second (Listed old first words) (Listed old second words) old new → Joined le at words first second (Marked skip old first words) (Marked skip old second words) old new
-    joined_marked p = record { grown = p.grown; sums = λ t u l m. p.sums t u (l.0, l.1, l.2.0) (m.0, m.1, m.2.0); low = p.low }
-
-    pub joined_one : Joined le at words first second (Listed old first words) (Listed old second words) old new → Joined le at words first second (Served d skip old first words) (Served d skip old second words) old new
-    joined_one p = record { grown = p.grown; sums = λ t u l m. p.sums t u l.0 m.0; low = p.low }
-
-    pub joined_several : 1 ≤ d → Joined le at words first second (Marked skip old first words) (Marked skip old second words) old new → Joined le at words first second (Served d skip old first words) (Served d skip old second words) old new
-    joined_several h p = record { grown = p.grown; sums = λ t u l m. p.sums t u (l.1 h) (m.1 h); low = p.low }
-
   module _ (d skip : ℕ) (positions floors : List ℕ) (a base stride : ℕ) where
-    pub cut_none : (from : ℕ) (xs : List ℕ) → CutAt le d skip positions floors a from from base stride at words xs xs
-    cut_none from xs = record { grown = grown_none le at words xs; sums = λ i t u h l. absurd (omega arith); low = λ f r s l. l }
-
-    -- a cut whose parts do not make up the whole is passed over
-    pub cut_passed : (i : ℕ) (xs : List ℕ) → (get_or positions i 0 + get_or positions (remainder positions floors a i) 0 ≡ get_or positions a 0 → ⊥) → CutAt le d skip positions floors a i (i + 1) base stride at words xs xs
-    cut_passed i xs h = record {
-      grown = grown_none le at words xs;
-      sums = λ j t u l m e. absurd (h (let z : j ≡ i = omega arith in rw z at e));
-      low = λ f r s l. l;
-    }
-
+    -- a cut whose parts make up the whole is joined
     pub cut_joined : (i : ℕ) (old new : List ℕ) → Joined le at words (base + i * stride) (base + remainder positions floors a i * stride) (Served d skip old (base + i * stride) words) (Served d skip old (base + remainder positions floors a i * stride) words) old new → CutAt le d skip positions floors a i (i + 1) base stride at words old new
     cut_joined i old new w = record {
       grown = w.grown;

@@ -38,16 +38,14 @@ fn cut_at(
     let left = entry(positions, line.index) - entry(positions, i);
     let rest = entry(floors, left);
     if entry(positions, rest) == left {
-        let first = line.base + i * line.stride;
-        let second = line.base + rest * line.stride;
         let cell = Cell {
-            d: d,
-            words: words,
+            d,
+            words,
             at: line.at,
         };
         let parts = Parts {
-            first: first,
-            second: second,
+            first: line.base + i * line.stride,
+            second: line.base + rest * line.stride,
             skip: line.skip,
         };
         return join(table, blocks, cell, parts, top);

@@ -1,10 +1,10 @@
 // Joining two finished cells into one that is being made: each state that the first one lists with each that the second one lists. Where
 // states have three digits or more, only those are read at which the cells can rise in the cut's direction.
-ghost use Rattle.std.specs.Prelude.{◌≡◌, true, ◌+◌, ◌-◌, ◌≤◌, ◌<◌, length};
+ghost use Rattle.std.specs.Prelude.{◌≡◌, true, IfSome, ◌+◌, ◌-◌, ◌≤◌, ◌<◌, length};
 ghost use Rattle.states.specs.States.{held, under, Topped};
 ghost use Rattle.state_joins.specs.Joins.{Listed, Marked, Served, Ready, Joinable, PartsReady, JoinedWith, Joined, Numbers, Among, Gathered};
 
-use states::{Cell, figure, mark, note, take};
+use states::{Cell, figure, listed, mark, take};
 
 // The parts of a cut: the words where their cells begin, and the mark of the entries that need not be read.
 #[derive(Clone, Copy, Drop)]
@@ -48,11 +48,9 @@ fn join_with(table: &mut [u64], blocks: &[u32], cell: Cell, addend: Addend, top:
     let second = addend.second;
     let mut high = top;
     for k in 0..words {
-        let listed = note(table[second + k]);
-        if listed == 0 {
+        let Some(u) = listed(table[second + k]) else {
             return high;
-        }
-        let u = listed - 1;
+        };
         if words <= t + u {
             return high;
         }
@@ -73,57 +71,56 @@ fn join_all(table: &mut [u64], blocks: &[u32], cell: Cell, parts: Parts, top: us
     let second = parts.second;
     let mut high = top;
     for k in 0..words {
-        let listed = note(table[first + k]);
-        if listed == 0 {
+        let Some(t) = listed(table[first + k]) else {
             return high;
-        }
-        let t = listed - 1;
-        let addend = Addend {
-            t: t,
-            v: figure(table[first + t]),
-            second: second,
         };
+        let v = figure(table[first + t]);
+        let addend = Addend { t, v, second };
         high = join_with(table, blocks, cell, addend, high);
     }
     high
 }
 
-// The states that the cell from `second` on lists with another mark than `skip` come into `list`, as far as it goes: 513 is returned
-// where there are more.
-fn gather(table: &[u64], list: &mut [u32], second: usize, words: usize, skip: usize) -> usize
+// The states that the cell from `second` on lists with another mark than `skip` come into `list`: their number, or none where there are
+// more than 512.
+fn gather(
+    table: &[u64],
+    list: &mut [u32],
+    second: usize,
+    words: usize,
+    skip: usize,
+) -> Option<usize>
     requires { Ready table.now second words (length table.now) × (words ≤ 65536) × (length list.old ≡ 512) }
-    ensures { result ≤ 512 → Gathered skip second words result table.now list.new }
+    ensures { IfSome result (λ n. Gathered skip second words n table.now list.new) }
 {
-    let mut n: usize = 0;
+    let mut n = 0;
     for k in 0..words {
         let word = table[second + k];
-        let listed = note(word);
-        if listed == 0 {
-            return n;
-        }
+        let Some(t) = listed(word) else {
+            return Some(n);
+        };
         if mark(word) != skip {
             if n == 512 {
-                return 513;
+                return None;
             }
-            list[n] = (listed - 1) as u32;
-            n = n + 1;
+            list[n] = t as u32;
+            n += 1;
         }
     }
-    n
+    Some(n)
 }
 
 // The cell takes what `join_with` takes, of the gathered states alone.
 fn join_list(
     table: &mut [u64],
     blocks: &[u32],
-    list: &[u32],
-    count: usize,
+    states: &[u32],
     cell: Cell,
     addend: Addend,
     top: usize,
 ) -> usize
-    requires { Joinable blocks.now cell.d cell.words cell.at addend.second addend.t addend.v table.old × Numbers cell.words count list.now × (length list.now ≡ 512) }
-    ensures { JoinedWith (under blocks.now cell.d) cell.at cell.words addend.t addend.v addend.second (Among count list.now) table.old table.new
+    requires { Joinable blocks.now cell.d cell.words cell.at addend.second addend.t addend.v table.old × Numbers cell.words (length states.now) states.now }
+    ensures { JoinedWith (under blocks.now cell.d) cell.at cell.words addend.t addend.v addend.second (Among (length states.now) states.now) table.old table.new
         × Topped cell.at cell.words top result table.old table.new }
 {
     if settled(&table[..], cell, addend) {
@@ -134,8 +131,8 @@ fn join_list(
     let v = addend.v;
     let second = addend.second;
     let mut high = top;
-    for k in 0..count {
-        let u = list[k] as usize;
+    for &state in states {
+        let u = state as usize;
         if words <= u + t {
             return high;
         }
@@ -156,26 +153,21 @@ fn join_marked(table: &mut [u64], blocks: &[u32], cell: Cell, parts: Parts, top:
     let first = parts.first;
     let second = parts.second;
     let skip = parts.skip;
-    let mut list = [0u32; 512];
-    let count = gather(&table[..], &mut list, second, words, skip);
-    if 512 < count {
+    let mut list = [0; 512];
+    let Some(count) = gather(&table[..], &mut list, second, words, skip) else {
         return join_all(table, blocks, cell, parts, top);
-    }
+    };
+    let states = &list[..count];
     let mut high = top;
     for k in 0..words {
         let word = table[first + k];
-        let listed = note(word);
-        if listed == 0 {
+        let Some(t) = listed(word) else {
             return high;
-        }
+        };
         if mark(word) != skip {
-            let t = listed - 1;
-            let addend = Addend {
-                t: t,
-                v: figure(table[first + t]),
-                second: second,
-            };
-            high = join_list(table, blocks, &list, count, cell, addend, high);
+            let v = figure(table[first + t]);
+            let addend = Addend { t, v, second };
+            high = join_list(table, blocks, states, cell, addend, high);
         }
     }
     high
@@ -188,7 +180,8 @@ pub fn join(table: &mut [u64], blocks: &[u32], cell: Cell, parts: Parts, top: us
         × Topped cell.at cell.words top result table.old table.new }
 {
     if 1 < cell.d {
-        return join_marked(table, blocks, cell, parts, top);
+        join_marked(table, blocks, cell, parts, top)
+    } else {
+        join_all(table, blocks, cell, parts, top)
     }
-    join_all(table, blocks, cell, parts, top)
 }

@@ -142,11 +142,7 @@ module _ (B : ℕ → ℕ) where
   pub sums_test : (d t u a b c : ℕ) → Blocks B d → a ≡ digit_sum B d t → b ≡ digit_sum B d u → c ≡ digit_sum B d (t + u) → eqb (a + b) c ≡ below B d t (t + u)
   sums_test d t u a b c blocks e f g = same (eqb (a + b) c) (below B d t (t + u)) (λ h. (sum_adds d t u blocks).1 (omega (arith, eqb→eq (a + b) c h))) (λ h. eqb_same (a + b) c (omega (arith, below_sums d t u blocks h)))
 
--- words that gain 1 with `size` words: none yet
-pub stepped_none : (size : ℕ) (xs : List ℕ) → Stepped size size xs xs
-stepped_none size xs = record { steps = λ f h k s l. h s l; rest = λ i h. refl }
-
--- one more
+-- words that gain 1 with `size` words: one more
 pub stepped_more : (size s : ℕ) (old xs : List ℕ) → 1 ≤ size → size ≤ s → s < length xs → Stepped size s old xs → Stepped size (s + 1) old (set xs s (get_or xs (s - size) 0 + 1))
 stepped_more size s old xs some h room p = record {
   steps = λ f a b j l. go f a b j l (ℕ_discrete j s);

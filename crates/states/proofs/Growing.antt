@@ -1,6 +1,6 @@
 -- A cell that is made grows: nothing taken, one raise, and one after the other. A raise keeps the figures rising with the states, and the
 -- flags cover them: a state that was overwritten is covered by the one that was raised.
-use Rattle.states.proofs.Prelude.{◌≡◌, refl, sym, ◌∙◌, ap, subst, ◌⊎◌, inl, inr, Bool, true, false, List, ℕ, ◌+◌, ◌-◌, ◌≤◌, ◌<◌, ℕ_discrete, arith, T, le→leb, length, get_or, set, get_or-set_same, get_or-set_other, Outside, below, Order, Covers, figure_in, note_in, held, under, Digits, Rises, Growing, Lift, Lifted, Raised, Flagged, Low, Grown, Taken}
+use Rattle.states.proofs.Prelude.{◌≡◌, refl, sym, ◌∙◌, ap, subst, ◌⊎◌, inl, inr, Bool, true, List, ℕ, ◌+◌, ◌-◌, ◌≤◌, ◌<◌, ℕ_discrete, arith, T, le→leb, length, get_or, Outside, below, Order, Covers, figure_in, note_in, held, under, Digits, Rises, Growing, Lift, Raised, Flagged, Low, Grown, Taken}
 use Rattle.states.proofs.Digits.{below_last, digits_order}
 use Rattle.states.proofs.Noted.{figure_plain, figure_flagged, note_flagged}
 
@@ -33,17 +33,6 @@ module _ (le : ℕ → ℕ → Bool) (at words : ℕ) where
     rises = λ r. q.rises (p.rises r);
     covers = λ g r c. q.covers g (p.rises r) (p.covers g r c);
     rest = outside_chain at (at + words) old mid new p.rest q.rest;
-  }
-
-  -- the flag is set on a word that was raised
-  pub raised_flag : (t v : ℕ) (old xs : List ℕ) → at + t < length xs → t < words → Lifted le at words t v old xs → Raised le at words t v old (set xs (at + t) (v + 2199023255552))
-  raised_flag t v old xs room h w = record {
-    lifts = λ s l e. (let f = get_or-set_other xs (at + t) (at + s) (v + 2199023255552) 0 (λ z. e (omega arith)) in rw f (w.lifts s l));
-    own = get_or-set_same xs (at + t) (v + 2199023255552) 0 room;
-    rest = record {
-      before = λ i l. get_or-set_other xs (at + t) i (v + 2199023255552) 0 (λ z. omega arith) ∙ w.rest.before i l;
-      after = λ i l. get_or-set_other xs (at + t) i (v + 2199023255552) 0 (λ z. omega arith) ∙ w.rest.after i l;
-    };
   }
 
   module _ (order : Order le) (t v : ℕ) (old new : List ℕ) (ht : t < words) (hv : v < 2199023255552) (less : held old at t < v) (w : Raised le at words t v old new) where
@@ -111,10 +100,6 @@ module _ (le : ℕ → ℕ → Bool) (at words : ℕ) where
         go (inl k) = omega (arith, ap figure_in k.0, low s h)
         go (inr k) = omega (arith, k.0, r t s h k.1)
 
-  -- nothing is to be taken
-  pub taken_none : (t u v : ℕ) (xs : List ℕ) → (t + u < words → T (le t (t + u)) → v ≤ held xs at (t + u)) → Taken le at words t u v xs xs
-  taken_none t u v xs h = record { grown = grown_none xs; taken = h; low = λ f r l low. low }
-
   -- the state is raised
   pub taken_raised : (t u v : ℕ) (old new : List ℕ) → Order le → t + u < words → v < 2199023255552 → held old at (t + u) < v → T (le t (t + u)) → Raised le at words (t + u) v old new → Taken le at words t u v old new
   taken_raised t u v old new order h l less b w = record {
@@ -123,19 +108,9 @@ module _ (le : ℕ → ℕ → Bool) (at words : ℕ) where
     low = λ f r m low. raised_low order (t + u) v old new h l less w f r (m h b) low;
   }
 
--- a test that came out true, or false
+-- a test that came out true
 pub test_true : (r b : Bool) → r ≡ b → r ≡ true → T b
 test_true r b e f = subst T (sym (sym e ∙ f)) tt
-
-pub test_false : (r b : Bool) → r ≡ b → r ≡ false → T b → ⊥
-test_false r b e f t = subst T (sym e ∙ f) t
-
--- the words of all states, as the code counts them
-pub growing_states : {blocks : List ℕ} {d words at : ℕ} {xs : List ℕ} → Growing blocks d words at xs → Growing blocks d (get_or blocks d 0) at xs
-growing_states {blocks} {d} {words} {at} {xs} given = subst (λ m. Growing blocks d m at xs) given.digits.states given
-
-pub lifted_states : {blocks : List ℕ} {d words at t v : ℕ} {old new : List ℕ} → Digits blocks d words → Lifted (under blocks d) at (get_or blocks d 0) t v old new → Lifted (under blocks d) at words t v old new
-lifted_states {blocks} {d} {words} {at} {t} {v} {old} {new} given w = subst (λ m. Lifted (under blocks d) at m t v old new) (sym given.states) w
 
 -- a cell that has grown goes on growing
 pub growing_kept : {blocks : List ℕ} {d words at : ℕ} {old new : List ℕ} → Growing blocks d words at old → length new ≡ length old → Grown (under blocks d) at words old new → Growing blocks d words at new

@@ -1,5 +1,5 @@
 -- Raising word after word, or block after block of the last digit: what is done below x, and what is left from there on.
-use Rattle.states.proofs.Prelude.{◌≡◌, refl, ◌∙◌, ap, inl, inr, Bool, false, ◌&&◌, List, ℕ, zero, suc, ◌+◌, ◌-◌, ◌*◌, ◌/◌, ◌%◌, ◌≤◌, ◌<◌, mod-lt, div-add-mod', mul-le-mul_right, ℕ_discrete, dec_le, arith, T, leb, le→leb, length, get_or, set, le-leb, lt-leb, get_or-set_same, get_or-set_other, Outside, below, Blocks, figure_in, held, under, Rises, Growing, Lift, Lifted}
+use Rattle.states.proofs.Prelude.{◌≡◌, refl, ◌∙◌, ap, inl, inr, Bool, false, ◌&&◌, List, ℕ, zero, suc, ◌+◌, ◌-◌, ◌*◌, ◌/◌, ◌%◌, ◌≤◌, ◌<◌, mod-lt, div-add-mod', mul-le-mul_right, dec_le, arith, T, leb, le→leb, length, get_or, le-leb, lt-leb, Outside, below, Blocks, figure_in, held, under, Rises, Growing, Lift, Lifted}
 use Rattle.states.proofs.Digits.{quotient, rest, lower_blocks, below_less, below_parts, parts_below}
 
 -- the words below x are raised, and those from x on are as they were
@@ -30,21 +30,6 @@ module _ (le : ℕ → ℕ → Bool) (at m t v : ℕ) where
 
   pub partly_all : (x : ℕ) (old new : List ℕ) → m ≤ x → Partly le at m t v x old new → Lifted le at m t v old new
   partly_all x old new h p = partly_stop x old new (λ s l k u. absurd (omega arith)) p
-
--- one digit: one word more
-pub partly_word : (at m t v j : ℕ) (old xs : List ℕ) → at + m ≤ length xs → t ≤ j → j < m → figure_in (get_or xs (at + j) 0) < v → Partly leb at m t v j old xs → Partly leb at m t v (j + 1) old (set xs (at + j) v)
-partly_word at m t v j old xs room from h f p = record {
-  done = λ s l k. go s l k (ℕ_discrete s j);
-  left = λ s l k. get_or-set_other xs (at + j) (at + s) v 0 (λ z. omega arith) ∙ p.left s l (omega arith);
-  rest = record {
-    before = λ i l. get_or-set_other xs (at + j) i v 0 (λ z. omega arith) ∙ p.rest.before i l;
-    after = λ i l. get_or-set_other xs (at + j) i v 0 (λ z. omega arith) ∙ p.rest.after i l;
-  };
-}
-  where
-    go : (s : ℕ) → s < m → s < j + 1 → Dec (s ≡ j) → Lift leb t v s (get_or old (at + s) 0) (get_or (set xs (at + j) v) (at + s) 0)
-    go s l k (yes e) = rw e (inr (get_or-set_same xs (at + j) v 0 (omega arith), le→leb t j from, omega (arith, ap figure_in (p.left j h (omega arith)))))
-    go s l k (no e) = let w = get_or-set_other xs (at + j) (at + s) v 0 (λ z. omega arith) in rw w (p.done s l (omega arith))
 
 -- one digit: the figures from the first that is not less are not less
 pub word_stop : (at m t v j : ℕ) (old xs : List ℕ) → Rises leb m (held old at) → j < m → v ≤ figure_in (get_or xs (at + j) 0) → Partly leb at m t v j old xs → Lifted leb at m t v old xs

@@ -1,11 +1,8 @@
--- Which states can be flagged: nothing written, one step after another, a raise, a flag set; and the number that all of them lie below.
+-- Which states can be flagged: one step after another, a raise, a flag set; and the number that all of them lie below.
 use Rattle.states.proofs.Prelude.{◌≡◌, ap, ◌⊎◌, inl, inr, Bool, List, ℕ, ◌+◌, ◌<◌, max, ℕ_discrete, arith, get_or, set, get_or-set_other, note_in, Lift, Raised, Flagged, Topped}
 use Rattle.states.proofs.Noted.{note_plain}
 
 module _ (at words : ℕ) where
-  pub topped_none : (top : ℕ) (xs : List ℕ) → Topped at words top top xs xs
-  topped_none top xs = record { more = omega arith; most = λ h. h; flags = λ t h f. inl f }
-
   pub topped_then : (a b c : ℕ) (xs ys zs : List ℕ) → Topped at words a b xs ys → Topped at words b c ys zs → Topped at words a c xs zs
   topped_then a b c xs ys zs p q = record {
     more = omega (arith, p.more, q.more);

@@ -6,6 +6,6 @@ mod raise;
 mod sums;
 mod words;
 
-pub use raise::{below, past, take};
+pub use raise::{below, take};
 pub use sums::first_row;
-pub use words::{Cell, figure, mark, note};
+pub use words::{Cell, FLAG, figure, flagged, listed, mark};

@@ -4,15 +4,7 @@ ghost use Rattle.table.specs.States.{Blocks};
 ghost use Rattle.states.specs.States.{held, under, Rises, Summed, Growing, Lifted, Raised, Taken, Topped};
 
 use crate::sums::apart;
-use crate::words::{Cell, figure};
-
-// The number of states that the digits from 0 to i have together.
-pub fn block(blocks: &[u32], i: usize) -> usize
-    requires { i < length blocks.now }
-    ensures { (result ≡ get_or blocks.now i 0) × (result < 4294967296) }
-{
-    blocks[i] as usize
-}
+use crate::words::{Cell, FLAG, figure};
 
 // Whether no digit of t is above that of s.
 pub fn below(blocks: &[u32], d: usize, t: usize, s: usize) -> bool
@@ -21,15 +13,13 @@ pub fn below(blocks: &[u32], d: usize, t: usize, s: usize) -> bool
 {
     let mut low = t;
     let mut high = s;
-    let mut e = d;
-    while 0 < e {
-        let size = block(blocks, e - 1);
+    for e in (0..d).rev() {
+        let size = blocks[e] as usize;
         if high / size < low / size {
             return false;
         }
-        low = low % size;
-        high = high % size;
-        e = e - 1;
+        low %= size;
+        high %= size;
     }
     low <= high
 }
@@ -53,20 +43,18 @@ fn up(table: &mut [u64], blocks: &[u32], d: usize, at: usize, t: usize, v: u64)
     requires { Growing blocks.now d (get_or blocks.now d 0) at table.old }
     ensures { Lifted (under blocks.now d) at (get_or blocks.now d 0) t v table.old table.new }
 {
-    let end = block(blocks, d);
+    let end = blocks[d] as usize;
     if d == 0 {
         run(table, at, end, t, v);
         return;
     }
-    let size = block(blocks, d - 1);
+    let size = blocks[d - 1] as usize;
     let low = t % size;
-    let mut x = t - low;
-    while x < end {
+    for x in (t - low..end).step_by(size) {
         if v <= figure(table[at + x + low]) {
             return;
         }
         up(table, blocks, d - 1, at + x, low, v);
-        x = x + size;
     }
 }
 
@@ -76,15 +64,7 @@ fn raise(table: &mut [u64], blocks: &[u32], cell: Cell, t: usize, v: u64)
     ensures { Raised (under blocks.now cell.d) cell.at cell.words t v table.old table.new }
 {
     up(table, blocks, cell.d, cell.at, t, v);
-    table[cell.at + t] = v + 2199023255552;
-}
-
-// The number past state t, or `top` where that is more.
-pub fn past(top: usize, t: usize) -> usize
-    requires { t < 8388608 }
-    ensures { result ≡ max top (t + 1) }
-{
-    if top <= t { t + 1 } else { top }
+    table[cell.at + t] = v + FLAG;
 }
 
 // The cell takes v at state t + u, where that is a state, t and u add without a carry, and v is more than it has. All states that are
@@ -102,13 +82,9 @@ pub fn take(
     ensures { Taken (under blocks.now cell.d) cell.at cell.words t u v table.old table.new × Topped cell.at cell.words top result table.old table.new }
 {
     let s = t + u;
-    if s < cell.words {
-        if apart(&table[..], blocks, cell.d, t, u) {
-            if figure(table[cell.at + s]) < v {
-                raise(table, blocks, cell, s, v);
-                return past(top, s);
-            }
-        }
+    if s < cell.words && apart(&table[..], blocks, cell.d, t, u) && figure(table[cell.at + s]) < v {
+        raise(table, blocks, cell, s, v);
+        return top.max(s + 1);
     }
     top
 }

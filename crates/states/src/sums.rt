@@ -4,7 +4,6 @@ ghost use Rattle.std.specs.Prelude.{◌≡◌, ℕ, ◌+◌, ◌≤◌, ◌<◌,
 ghost use Rattle.table.specs.States.{Blocks};
 ghost use Rattle.states.specs.States.{under, Digits, Sums, Stepped, FirstRow};
 
-use crate::raise::block;
 use table::set_run;
 
 // Whether t and u add without a carry.
@@ -12,10 +11,7 @@ pub fn apart(table: &[u64], blocks: &[u32], d: usize, t: usize, u: usize) -> boo
     requires { Blocks (λ i. get_or blocks.now i 0) d × (t + u < length table.now) × (1 ≤ d → Sums blocks.now d (t + u + 1) table.now) }
     ensures { result ≡ under blocks.now d t (t + u) }
 {
-    if d == 0 {
-        return true;
-    }
-    table[t] + table[u] == table[t + u]
+    d == 0 || table[t] + table[u] == table[t + u]
 }
 
 // The words from `size` to `end` less 1 become one more than those `size` before.
@@ -33,12 +29,9 @@ fn put_sums(table: &mut [u64], blocks: &[u32], d: usize, words: usize)
     requires { Digits blocks.now d words × (words ≤ length table.old) × (get_or table.old 0 0 ≡ 0) }
     ensures { Sums blocks.now d words table.new × ((i : ℕ) → words ≤ i → get_or table.new i 0 ≡ get_or table.old i 0) }
 {
-    let first = block(blocks, 0);
-    add_steps(table, 1, first);
+    add_steps(table, 1, blocks[0] as usize);
     for e in 0..d {
-        let size = block(blocks, e);
-        let end = block(blocks, e + 1);
-        add_steps(table, size, end);
+        add_steps(table, blocks[e] as usize, blocks[e + 1] as usize);
     }
 }
 

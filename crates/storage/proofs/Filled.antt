@@ -1,5 +1,5 @@
 -- Lists and floors of pieces: what each step of laying out asks and leaves, from what the step before left; and what a fill then asks.
-use Rattle.storage.proofs.Prelude.{◌≡◌, refl, sym, subst, List, ℕ, ◌+◌, ◌*◌, ◌≤◌, ◌<◌, mul-le-mul_left, arith, length, drop, length-drop, Direction, Length, Width, most_capacity, over, Rect, side, Job, normal_positions, InTableRange, pieces_job, Holds, field_in, Listable, positions_of, Mappable, Floors, holds_take, holds_length, lengths_found, widths_found, positions_rising, floors_found, position_count, TableSize, Mapped, Positions, Fillable, Ready, SidesMapped, BothMapped, table_size, LaidOut}
+use Rattle.storage.proofs.Prelude.{◌≡◌, refl, sym, subst, List, ℕ, ◌+◌, ◌*◌, ◌≤◌, ◌<◌, mul-le-mul_left, arith, length, drop, length-drop, Direction, Length, Width, most_capacity, over, Rect, side, Job, normal_positions, InTableRange, pieces_job, Holds, field_in, Listable, positions_of, Mappable, Floors, holds_take, holds_length, lengths_found, widths_found, positions_rising, floors_found, position_count, TableSize, Mapped, Positions, Fillable, SidesMapped, BothMapped, table_size, LaidOut, Answer, Layout, Ok}
 use Rattle.storage.proofs.Storage.{ready_laid}
 
 side_most : (J : Job) → InTableRange J → (d : Direction) → side d J.plate ≤ 1020
@@ -61,13 +61,13 @@ positions J d old {list} {floors} e l m =
     let h : Holds (normal_positions J d) (position_count J d) old list = record { number = refl; contents = e } in
     record { counted = refl; listed = holds_take h; mapped = l; floored = m }
 
-module _ {r : Rect} {count : ℕ} {pieces : List ℕ} {q per_cell : ℕ} {lengths widths floors new_lengths new_widths new_floors table : List ℕ} {size : TableSize} {n : ℕ}
-    (laid : LaidOut (pieces_job r count pieces) q per_cell (length table) lengths widths floors new_lengths new_widths new_floors (Ready size n)) where
+module _ {r : Rect} {count : ℕ} {pieces : List ℕ} {q per_cell : ℕ} {lengths widths floors new_lengths new_widths new_floors table : List ℕ} {a : Answer Layout} {l : Layout}
+    (laid : LaidOut (pieces_job r count pieces) q per_cell (length table) lengths widths floors new_lengths new_widths new_floors a) (e : a ≡ Ok l) where
   -- what a fill asks, where a cell has a word for each share
-  pub fillable : InTableRange (pieces_job r count pieces) → q ≤ most_capacity → q + 1 ≤ per_cell → Fillable size pieces new_lengths new_widths new_floors table
+  pub fillable : InTableRange (pieces_job r count pieces) → q ≤ most_capacity → q + 1 ≤ per_cell → Fillable l.size pieces new_lengths new_widths new_floors table
   fillable most few enough =
       let N = pieces_job r count pieces in
-      let k = ready_laid laid in
+      let k = ready_laid laid e in
       subst (λ s. Fillable s pieces new_lengths new_widths new_floors table) (sym k.size_is) (record {
         in_range = most;
         most = few;

@@ -1,7 +1,6 @@
 -- What the proofs of this crate take from libraries and from other crates, named once.
 pub use Prim.Native.Nat.{◌*◌, ◌+◌, ◌-◌, ◌<◌, ◌≤◌, ℕ}
-pub use borrow.Author.Rules.{rules}
-pub use borrow.Author.Tests.{le-ltb, lt-ltb, ltb-false}
+pub use borrow.Author.Tests.{ltb-false}
 pub use lib.Dec.{ltb}
 pub use lib.ListN.{get_or-append as List·getD-append, drop, length, length-append, length-drop, take}
 pub use lib.Seq.{drop-append_seam, length-take-le, take-append_seam}
@@ -21,8 +20,6 @@ pub use Rattle.positions.proofs.Fitting.{lengths_found, widths_found}
 pub use Rattle.positions.proofs.Lists.{holds_length, holds_take}
 pub use Rattle.positions.proofs.Positions.{floors_found, positions_rising}
 pub use Rattle.positions.specs.Clauses.{Floors, Holds, Listable, Mappable, field_in, positions_of}
-pub use Rattle.promises.specs.declared.Checked.{Checked}
-pub use Rattle.promises.specs.declared.Checked.TheVariants.{Passed, Refused}
 pub use Rattle.promises.specs.declared.Direction.{Direction}
 pub use Rattle.promises.specs.declared.Direction.TheVariants.{Length, Width}
 pub use Rattle.promises.specs.declared.Refusal.{Refusal}
@@ -35,4 +32,6 @@ pub use Rattle.table.specs.Table.{position_count}
 pub use Rattle.table.specs.declared.TableSize.{TableSize}
 pub use Rattle.storage.specs.Clauses.{BothMapped, LaidOut, SidesMapped, cell_words, lists_verdict, storage_verdict, table_size}
 pub use Rattle.storage.specs.Storage.{list_after}
-pub use Rattle.storage.specs.declared.Layout.TheVariants.{Ready}
+pub use Rattle.storage.specs.declared.Layout.{Layout}
+pub use Rattle.std.proofs.Common.{Ok, Err}
+pub use Rattle.promises.specs.Refusals.{Checked, Answer, passed}

@@ -11,13 +11,14 @@ ghost use Rattle.storage.specs.Clauses.{SidesMapped, LaidOut};
 use cutting::Sides;
 use positions::{map_floors, normal_positions};
 use promises::Refusal;
+use refusal::refuse_if;
 use table::TableSize;
 
 // How lent storage is laid out: the table's size and the words that it needs.
 #[derive(Clone, Copy, Drop)]
-pub enum Layout {
-    Ready(TableSize, usize),
-    Refused(Refusal),
+pub struct Layout {
+    pub size: TableSize,
+    pub words: usize,
 }
 
 // The words of p rows and r columns of cells.
@@ -31,10 +32,7 @@ pub fn words(p: u16, r: u16, per_cell: u32) -> u64
 fn lists_short(m: usize, n: usize, length: u16, width: u16) -> bool
     ensures { result ≡ (ltb m (length + 1) || ltb n (width + 1)) }
 {
-    if m < (length as usize) + 1 {
-        return true;
-    }
-    n < (width as usize) + 1
+    m < (length as usize) + 1 || n < (width as usize) + 1
 }
 
 // The floors of both sides into one array: those of the lengths first, those of the widths from entry 1,021 on.
@@ -58,30 +56,29 @@ pub fn lay_out(
     normal_widths: &mut [u16],
     floors: &mut [u16],
     room: usize,
-) -> Layout
+) -> Result<Layout, Refusal>
     requires { InTableRange (pieces_job (rect_of plate) count pieces.now) × (length floors.old ≡ 2042) }
     ensures { LaidOut (pieces_job (rect_of plate) count pieces.now) capacity per_cell room normal_lengths.old normal_widths.old floors.old
         normal_lengths.new normal_widths.new floors.new result }
 {
-    let length = plate.length;
-    let width = plate.width;
-    if lists_short(normal_lengths.len(), normal_widths.len(), length, width) {
-        return Layout::Refused(Refusal::ListShort);
-    }
-    let p = normal_positions(pieces, 0, count, length, width, normal_lengths);
-    let r = normal_positions(pieces, 1, count, width, length, normal_widths);
-    let needed = words(p, r, per_cell);
-    if (room as u64) < needed {
-        return Layout::Refused(Refusal::TableShort(needed));
-    }
+    let Sides { length, width } = plate;
+    let short = lists_short(normal_lengths.len(), normal_widths.len(), length, width);
+    refuse_if(short, Refusal::ListShort)?;
+    let rows = normal_positions(pieces, 0, count, length, width, normal_lengths);
+    let columns = normal_positions(pieces, 1, count, width, length, normal_widths);
+    let needed = words(rows, columns, per_cell);
+    refuse_if((room as u64) < needed, Refusal::TableShort(needed))?;
     let size = TableSize {
-        length: length,
-        width: width,
-        count: count,
-        rows: p,
-        columns: r,
-        capacity: capacity,
+        length,
+        width,
+        count,
+        rows,
+        columns,
+        capacity,
     };
     map_sides(size, &normal_lengths[..], &normal_widths[..], floors);
-    Layout::Ready(size, needed as usize)
+    Ok(Layout {
+        size,
+        words: needed as usize,
+    })
 }

@@ -23,14 +23,14 @@ pub fn entry(list: &[u16], i: usize) -> usize
     requires { i < length list.now }
     ensures { (result ≡ get_or list.now i 0) × (result < 65536) }
 {
-    list[i] as usize
+    usize::from(list[i])
 }
 
 // A side as the array of pieces holds it.
 pub fn widen(side: u16) -> u32
     ensures { result ≡ side }
 {
-    side as u32
+    u32::from(side)
 }
 
 // The first index from 1 on whose entry is past half of entry b: those before `from` are known not to be.
@@ -41,7 +41,7 @@ pub fn half(positions: &[u16], from: usize, b: usize) -> usize
     let whole = entry(positions, b);
     let mut half_end = from;
     while 2 * entry(positions, half_end) <= whole {
-        half_end = half_end + 1;
+        half_end += 1;
     }
     half_end
 }
@@ -69,9 +69,7 @@ pub fn copy(table: &mut [u64], from: usize, at: usize, m: usize)
     requires { (from + m ≤ at) × (at + m ≤ length table.old) }
     ensures { Run (λ j. get_or table.old (from + j) 0) at m table.old table.new }
 {
-    for j in 0..m {
-        table[at + j] = table[from + j];
-    }
+    table.copy_within(from..from + m, at);
 }
 
 // The m words from `at` on become v.
@@ -79,7 +77,5 @@ pub fn set_run(table: &mut [u64], at: usize, m: usize, v: u64)
     requires { at + m ≤ length table.old }
     ensures { Run (λ j. v) at m table.old table.new }
 {
-    for j in 0..m {
-        table[at + j] = v;
-    }
+    table[at..at + m].fill(v);
 }

@@ -9,8 +9,7 @@ use exact::exact;
 use multipliers::bound_lagrangian;
 use plates_needed::plates_needed;
 use promises::{
-    BoundAnswer, BoundReport, Choices, ExactAnswer, ExactReport, LagrangianAnswer,
-    LagrangianReport, PlatesAnswer, PlatesReport, Refusal, TwoAnswer, TwoReport,
+    BoundReport, Choices, ExactReport, LagrangianReport, PlatesReport, Refusal, TwoReport,
 };
 use staged_bound::bound_staged;
 use test_tools::{
@@ -72,13 +71,10 @@ struct Seen {
     words: usize,
 }
 
-fn widen(x: u16) -> usize {
-    x as usize
-}
-
+// A refusal's number and place.
 fn refused(r: Refusal) -> Answer {
     Answer {
-        refusal: widen(refusal::number(r)),
+        refusal: refusal::number(r) as usize,
         bound: refusal::place(r) as usize,
         capacity: 0,
         lengths: 0,
@@ -95,83 +91,71 @@ fn answered(bound: u64, capacity: usize, p: u16, r: u16, second: u16, nodes: u64
     Answer {
         refusal: 0,
         bound: bound as usize,
-        capacity: capacity,
-        lengths: widen(p),
-        widths: widen(r),
-        second: widen(second),
+        capacity,
+        lengths: p as usize,
+        widths: r as usize,
+        second: second as usize,
         nodes: nodes as usize,
         order: 0,
         worth: 0,
     }
 }
 
-fn exact_report(r: ExactReport) -> Answer {
-    let last = minus(r.states as usize, 1);
-    answered(r.optimum, last, r.length_count, r.columns, 0, r.nodes)
-}
-
-fn exact_answer(answer: ExactAnswer) -> Answer {
-    match answer {
-        ExactAnswer::Answered(r) => exact_report(r),
-        ExactAnswer::Refused(r) => refused(r),
+impl From<ExactReport> for Answer {
+    fn from(r: ExactReport) -> Answer {
+        let last = minus(r.states as usize, 1);
+        answered(r.optimum, last, r.length_count, r.columns, 0, r.nodes)
     }
 }
 
-fn two_report(r: TwoReport) -> Answer {
-    let first = widen(r.first_capacity);
-    answered(
-        r.bound,
-        first,
-        r.length_count,
-        r.columns,
-        r.second_capacity,
-        0,
-    )
-}
-
-fn two_answer(answer: TwoAnswer) -> Answer {
-    match answer {
-        TwoAnswer::Answered(r) => two_report(r),
-        TwoAnswer::Refused(r) => refused(r),
+impl From<TwoReport> for Answer {
+    fn from(r: TwoReport) -> Answer {
+        answered(
+            r.bound,
+            r.first_capacity as usize,
+            r.length_count,
+            r.columns,
+            r.second_capacity,
+            0,
+        )
     }
 }
 
-fn bound_report(r: BoundReport) -> Answer {
-    answered(r.bound, widen(r.capacity), r.length_count, r.columns, 0, 0)
-}
-
-fn bound_answer(answer: BoundAnswer) -> Answer {
-    match answer {
-        BoundAnswer::Answered(r) => bound_report(r),
-        BoundAnswer::Refused(r) => refused(r),
+impl From<BoundReport> for Answer {
+    fn from(r: BoundReport) -> Answer {
+        answered(
+            r.bound,
+            r.capacity as usize,
+            r.length_count,
+            r.columns,
+            0,
+            0,
+        )
     }
 }
 
-fn plates_report(r: PlatesReport) -> Answer {
-    let mut a = answered(r.bound, 0, 0, 0, 0, 0);
-    a.order = r.plates as usize;
-    a.worth = r.worth as usize;
-    a
-}
-
-fn plates_answer(answer: PlatesAnswer) -> Answer {
-    match answer {
-        PlatesAnswer::Answered(r) => plates_report(r),
-        PlatesAnswer::Refused(r) => refused(r),
+impl From<PlatesReport> for Answer {
+    fn from(r: PlatesReport) -> Answer {
+        let mut a = answered(r.bound, 0, 0, 0, 0, 0);
+        a.order = r.plates as usize;
+        a.worth = r.worth as usize;
+        a
     }
 }
 
-fn lagrangian_report(r: LagrangianReport) -> Answer {
-    let lowered = r.lowered;
-    let mut a = bound_report(lowered);
-    a.order = r.lagrangian as usize;
-    a
+impl From<LagrangianReport> for Answer {
+    fn from(r: LagrangianReport) -> Answer {
+        let mut a = Answer::from(r.lowered);
+        a.order = r.lagrangian as usize;
+        a
+    }
 }
 
-fn lagrangian_answer(answer: LagrangianAnswer) -> Answer {
+// What a call answered, whichever it is.
+fn noted<R: Into<Answer>>(answer: Result<R, Refusal>) -> Answer {
     match answer {
-        LagrangianAnswer::Answered(r) => lagrangian_report(r),
-        LagrangianAnswer::Refused(r) => refused(r),
+        Ok(report) => report.into(),
+        Err(r) => refused(r),
     }
 }
 
@@ -211,7 +195,7 @@ fn call_bound(
     lengths: &mut [u16],
     widths: &mut [u16],
     table: &mut [u64],
-) -> BoundAnswer {
+) -> Result<BoundReport, Refusal> {
     if limit != 0 {
         return bound_staged(block, c, weights, limit, lengths, widths, table);
     }
@@ -230,7 +214,7 @@ fn call_two(
     lengths: &mut [u16],
     widths: &mut [u16],
     table: &mut [u64],
-) -> TwoAnswer {
+) -> Result<TwoReport, Refusal> {
     let other = other_choices(c);
     if c.full_demand {
         return bound_two_full_demand(block, other, first, second, lengths, widths, table);
@@ -245,7 +229,7 @@ fn call_exact(
     lengths: &mut [u16],
     widths: &mut [u16],
     table: &mut [u64],
-) -> ExactAnswer {
+) -> Result<ExactReport, Refusal> {
     let mut kinds = [0u8; 4095];
     let mut operands = [0u16; 4095];
     exact(block, c, lengths, widths, table, &mut kinds, &mut operands)
@@ -260,7 +244,7 @@ fn call_lagrangian(
     lengths: &mut [u16],
     widths: &mut [u16],
     table: &mut [u64],
-) -> LagrangianAnswer {
+) -> Result<LagrangianReport, Refusal> {
     let multipliers = u32s(t, MULTIPLIERS);
     let ms = first_u32s(t, MULTIPLIERS, &multipliers);
     bound_lagrangian(block, c, weights, ms, lengths, widths, table)
@@ -278,9 +262,9 @@ fn call_order(
 ) -> Answer {
     if word(t, ORDER, 0) == PLATES {
         let other = word(t, OTHER, 0) as u64;
-        return plates_answer(plates_needed(block, c, weights, other, lengths, widths, table));
+        return noted(plates_needed(block, c, weights, other, lengths, widths, table));
     }
-    lagrangian_answer(call_lagrangian(t, c, block, weights, lengths, widths, table))
+    noted(call_lagrangian(t, c, block, weights, lengths, widths, table))
 }
 
 // The exact call, or that of two weights, or one for the order, or the bound of one weight, by what is set.
@@ -295,16 +279,16 @@ fn call_set(
     table: &mut [u64],
 ) -> Answer {
     if word(t, EXACT, 0) == 1 {
-        return exact_answer(call_exact(c, block, lengths, widths, table));
+        return noted(call_exact(c, block, lengths, widths, table));
     }
     if word(t, TWO, 0) == 1 {
-        return two_answer(call_two(c, block, first, second, lengths, widths, table));
+        return noted(call_two(c, block, first, second, lengths, widths, table));
     }
     if word(t, ORDER, 0) != 0 {
         return call_order(t, c, block, first, lengths, widths, table);
     }
     let m = limit(t);
-    bound_answer(call_bound(m, c, block, first, lengths, widths, table))
+    noted(call_bound(m, c, block, first, lengths, widths, table))
 }
 
 // What was left in the lists and the table.
@@ -319,7 +303,7 @@ fn left(
     let r = word(t, WIDTH_COUNT, 0);
     let k = word(t, WORD_COUNT, 0);
     Seen {
-        answer: answer,
+        answer,
         lengths: different_entries(lengths, t, NORMAL_LENGTHS, p),
         widths: different_entries(widths, t, NORMAL_WIDTHS, r),
         words: different_words(table, t, FIGURES, k),
@@ -359,8 +343,7 @@ fn call_job(t: &Words, c: Choices) -> Seen {
 }
 
 fn note(t: &mut Words, seen: Seen) {
-    let answer = seen.answer;
-    note_answer(t, answer);
+    note_answer(t, seen.answer);
     put(t, OTHER_LENGTHS, 0, seen.lengths);
     put(t, OTHER_WIDTHS, 0, seen.widths);
     put(t, OTHER_WORDS, 0, seen.words);

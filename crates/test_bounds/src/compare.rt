@@ -79,10 +79,7 @@ fn other_answers(t: &Words) -> usize {
 fn other_plates(t: &Words) -> bool {
     let worth = order_sum(t, PRICE);
     let left = minus(worth, word(t, OTHER, 0));
-    if is_fewest(word(t, ORDER_ANSWER, 0), word(t, BOUND, 0), left) {
-        return word(t, WORTH, 0) != worth;
-    }
-    true
+    !is_fewest(word(t, ORDER_ANSWER, 0), word(t, BOUND, 0), left) || word(t, WORTH, 0) != worth
 }
 
 // Whether the Lagrangian bound is not as expected: the bound at lowered prices, and demand times multiplier.
@@ -93,21 +90,16 @@ fn other_lagrangian(t: &Words) -> bool {
 
 // Whether what is answered of the order is not as expected.
 fn other_order(t: &Words) -> bool {
-    if word(t, ORDER, 0) == PLATES {
-        return other_plates(t);
+    match word(t, ORDER, 0) {
+        PLATES => other_plates(t),
+        LAGRANGIAN => other_lagrangian(t),
+        _ => false,
     }
-    if word(t, ORDER, 0) == LAGRANGIAN {
-        return other_lagrangian(t);
-    }
-    false
 }
 
 // What differs: 0 nothing, 1 the answer, 2 the lengths, 3 the widths, 4 the table or a word after it.
 fn difference(t: &Words) -> usize {
-    if other_answers(t) != 0 {
-        return 1;
-    }
-    if other_order(t) {
+    if other_answers(t) != 0 || other_order(t) {
         return 1;
     }
     if word(t, OTHER_LENGTHS, 0) != 0 {
@@ -157,18 +149,12 @@ fn note_difference(t: &mut Words, way: usize) {
 
 // Whether pieces may be turned in the n-th job compared in a way.
 fn turns(way: usize, n: usize) -> bool {
-    if way == 2 {
-        return n % 2 == 1;
-    }
-    way == 1
+    way == 1 || (way == 2 && n % 2 == 1)
 }
 
 // Whether the n-th job is given as an old block.
 fn old_block(t: &Words, n: usize) -> bool {
-    if word(t, KERF, 0) == 0 {
-        return n % 4 < 2;
-    }
-    false
+    word(t, KERF, 0) == 0 && n % 4 < 2
 }
 
 // Computes what is expected, of the bound by multipliers at lowered prices.
@@ -194,8 +180,8 @@ fn compare_way(t: &mut Words, way: usize) {
         t,
         old,
         Choices {
-            turning: turning,
-            full_demand: full_demand,
+            turning,
+            full_demand,
             old_block: old,
             grain: word(t, GRAIN, 0) == 1,
         },
@@ -243,7 +229,7 @@ fn compare_job(t: &mut Words, call: usize) {
 }
 
 fn compare_jobs(t: &mut Words, n: usize, call: usize) {
-    for i in 0..n {
+    for _ in 0..n {
         compare_job(t, call);
     }
 }

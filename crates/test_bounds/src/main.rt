@@ -53,7 +53,7 @@ fn run_next(rt: &impl Print, input: &mut impl Read, t: &mut Words) -> io::Result
 }
 
 fn run_commands(rt: &impl Print, input: &mut impl Read, t: &mut Words, n: usize) -> io::Result<()> {
-    for i in 0..n {
+    for _ in 0..n {
         run_next(rt, input, t)?;
     }
     Ok(())

@@ -1,7 +1,7 @@
 // The check of plans, without a limit of stages and within one.
-use crate::lent::{PLAN, choices, limit, print_fault, widen};
+use crate::lent::{Case, PLAN, print_fault};
 use plan::{check_plan, check_plan_block};
-use promises::{Checked, PlanAnswer, Report, StagedAnswer};
+use promises::{Refusal, Report, StagedReport};
 use staged_plan::check_plan_staged;
 use std::io;
 use test_tools::{Words, bytes, first_bytes, print_numbers, print_value, text};
@@ -10,14 +10,13 @@ pub fn print_copies(rt: &impl Print, copies: [u16; 64]) -> io::Result<()> {
     print_numbers(
         rt,
         b" copies # # #",
-        &[widen(copies[0]), widen(copies[1]), widen(copies[2])],
+        &[copies[0], copies[1], copies[2]].map(u64::from),
     )
 }
 
 fn print_figures(rt: &impl Print, r: Report) -> io::Result<()> {
     print_value(rt, b" profit #", r.profit)?;
-    let copies = r.copies;
-    print_copies(rt, copies)?;
+    print_copies(rt, r.copies)?;
     print_numbers(
         rt,
         b" areas # # # #",
@@ -30,57 +29,46 @@ fn print_report(rt: &impl Print, r: Report) -> io::Result<()> {
     text(rt, b";")
 }
 
-fn print_staged(rt: &impl Print, r: Report, stages: u8) -> io::Result<()> {
-    print_figures(rt, r)?;
-    print_value(rt, b" stages #;", stages as u64)
+fn print_staged(rt: &impl Print, r: StagedReport) -> io::Result<()> {
+    print_figures(rt, r.report)?;
+    print_value(rt, b" stages #;", u64::from(r.stages))
 }
 
-fn print_answer(rt: &impl Print, a: PlanAnswer) -> io::Result<()> {
-    let verdict = a.verdict;
-    let report = a.report;
-    match verdict {
-        Checked::Passed => print_report(rt, report),
-        Checked::Refused(r) => print_fault(rt, r),
+fn print_answer(rt: &impl Print, a: Result<Report, Refusal>) -> io::Result<()> {
+    match a {
+        Ok(report) => print_report(rt, report),
+        Err(r) => print_fault(rt, r),
     }
 }
 
-fn print_staged_answer(rt: &impl Print, a: StagedAnswer) -> io::Result<()> {
-    let verdict = a.verdict;
-    let report = a.report;
-    match verdict {
-        Checked::Passed => print_staged(rt, report, a.stages),
-        Checked::Refused(r) => print_fault(rt, r),
+fn print_staged_answer(rt: &impl Print, a: Result<StagedReport, Refusal>) -> io::Result<()> {
+    match a {
+        Ok(staged) => print_staged(rt, staged),
+        Err(r) => print_fault(rt, r),
     }
 }
 
 // The check of the two arrays.
-pub fn run_arrays(
-    rt: &impl Print,
-    t: &Words,
-    block: &[u8],
-    kinds: &[u8],
-    operands: &[u16],
-) -> io::Result<()> {
-    print_answer(rt, check_plan(block, choices(t), kinds, operands))
+pub fn run_arrays(rt: &impl Print, case: Case) -> io::Result<()> {
+    print_answer(
+        rt,
+        check_plan(case.block, case.choices, case.kinds, case.operands),
+    )
 }
 
 // The check of the two arrays within the limit.
-pub fn run_staged(
-    rt: &impl Print,
-    t: &Words,
-    block: &[u8],
-    kinds: &[u8],
-    operands: &[u16],
-) -> io::Result<()> {
-    let m = limit(t);
-    print_staged_answer(rt, check_plan_staged(block, choices(t), m, kinds, operands))
+pub fn run_staged(rt: &impl Print, limit: u32, case: Case) -> io::Result<()> {
+    print_staged_answer(
+        rt,
+        check_plan_staged(case.block, case.choices, limit, case.kinds, case.operands),
+    )
 }
 
 // The check of the plan block.
-pub fn run_block(rt: &impl Print, t: &Words, block: &[u8]) -> io::Result<()> {
+pub fn run_block(rt: &impl Print, t: &Words, case: Case) -> io::Result<()> {
     let plan = bytes(t, PLAN);
     print_answer(
         rt,
-        check_plan_block(block, choices(t), first_bytes(t, PLAN, &plan)),
+        check_plan_block(case.block, case.choices, first_bytes(t, PLAN, &plan)),
     )
 }

@@ -1,4 +1,4 @@
-// Where the words stand that a call runs on: how many there are, and then each. The choices of a call. How a refusal is printed.
+// Where the words stand that a call runs on: how many there are, and then each. What all calls run on. How a refusal is printed.
 use promises::{Choices, Refusal};
 use std::io;
 use test_tools::{Words, print_numbers, print_value, word};
@@ -61,6 +61,15 @@ pub const OPERANDS: usize = 30000;
 // What the bound printer is given.
 pub const INPUT: usize = 40000;
 
+// What a call runs on: the job block, the choices and the plan's two arrays.
+#[derive(Clone, Copy, Drop)]
+pub struct Case<'a> {
+    pub block: &'a [u8],
+    pub choices: Choices,
+    pub kinds: &'a [u8],
+    pub operands: &'a [u16],
+}
+
 pub fn count(t: &Words, from: usize) -> usize {
     word(t, from, 0)
 }
@@ -77,10 +86,8 @@ pub fn choices(t: &Words) -> Choices {
 // The choices for a call whose name says full demand: of it they say nothing.
 pub fn other_choices(choices: Choices) -> Choices {
     Choices {
-        turning: choices.turning,
         full_demand: false,
-        old_block: choices.old_block,
-        grain: choices.grain,
+        ..choices
     }
 }
 
@@ -89,16 +96,20 @@ pub fn limit(t: &Words) -> u32 {
     (word(t, LIMIT, 1) % 4294967296) as u32
 }
 
-pub fn widen(n: u16) -> u64 {
-    n as u64
-}
-
-pub fn print_byte(rt: &impl Print, n: u8) -> io::Result<()> {
-    print_value(rt, b" #", n as u64)
+// Each number of some.
+pub fn print_each<T: Copy + Into<u64>>(rt: &impl Print, numbers: &[T]) -> io::Result<()> {
+    for n in numbers {
+        print_value(rt, b" #", (*n).into())?;
+    }
+    Ok(())
 }
 
 fn print_refusal(rt: &impl Print, form: &[u8], r: Refusal) -> io::Result<()> {
-    print_numbers(rt, form, &[widen(refusal::number(r)), refusal::place(r)])
+    print_numbers(
+        rt,
+        form,
+        &[u64::from(refusal::number(r)), refusal::place(r)],
+    )
 }
 
 // The refusal of a call that bounds, writes or certifies.

@@ -94,14 +94,11 @@ fn run_next(rt: &impl Print, input: &mut impl Read, t: &mut Words) -> io::Result
     run(rt, input, t, letter)
 }
 
-fn run_commands(rt: &impl Print, input: &mut impl Read, t: &mut Words, n: usize) -> io::Result<()> {
-    for i in 0..n {
-        run_next(rt, input, t)?;
-    }
-    Ok(())
-}
-
 fn main(rt: HostRuntime) -> io::Result<()> {
     let mut t = [0usize; 65536];
-    run_commands(&rt, &mut rt.reader(), &mut t, COMMANDS)
+    let mut input = rt.reader();
+    for _ in 0..COMMANDS {
+        run_next(&rt, &mut input, &mut t)?;
+    }
+    Ok(())
 }

@@ -1,7 +1,7 @@
 // The old job block by its own call, whatever the choices say of it.
-use crate::lent::{print_fault, widen};
+use crate::lent::print_fault;
 use job::read_old_job;
-use promises::{Checked, Choices, JobRecord};
+use promises::{Choices, JobRecord, Refusal};
 use std::io;
 use test_tools::print_numbers;
 
@@ -9,12 +9,7 @@ fn print_job(rt: &impl Print, job: JobRecord) -> io::Result<()> {
     print_numbers(
         rt,
         b" plate # # pieces # kerf #;",
-        &[
-            widen(job.length),
-            widen(job.width),
-            widen(job.count),
-            widen(job.kerf),
-        ],
+        &[job.length, job.width, job.count, job.kerf].map(u64::from),
     )
 }
 
@@ -26,11 +21,8 @@ pub fn run_old_job(rt: &impl Print, block: &[u8]) -> io::Result<()> {
         old_block: false,
         grain: false,
     };
-    let read = read_old_job(block, none);
-    let verdict = read.verdict;
-    let job = read.job;
-    match verdict {
-        Checked::Passed => print_job(rt, job),
-        Checked::Refused(r) => print_fault(rt, r),
+    match read_old_job(block, none) {
+        Ok(job) => print_job(rt, job),
+        Err(r) => print_fault(rt, r),
     }
 }

@@ -1,6 +1,6 @@
 // The check of a rack of plates.
-use crate::lent::{PLATE_LENGTHS, PLATE_WIDTHS, choices, print_fault};
-use promises::{Checked, RackAnswer};
+use crate::lent::{Case, PLATE_LENGTHS, PLATE_WIDTHS, print_fault};
+use promises::Refusal;
 use rack::check_plates;
 use std::io;
 use test_tools::{Words, first_numbers, numbers, print_numbers};
@@ -14,34 +14,26 @@ fn print_profits(rt: &impl Print, profits: [u64; 16]) -> io::Result<()> {
     )
 }
 
-fn print_answer(rt: &impl Print, a: RackAnswer) -> io::Result<()> {
-    let verdict = a.verdict;
-    let profits = a.profits;
-    match verdict {
-        Checked::Passed => print_profits(rt, profits),
-        Checked::Refused(r) => print_fault(rt, r),
+fn print_answer(rt: &impl Print, a: Result<[u64; 16], Refusal>) -> io::Result<()> {
+    match a {
+        Ok(profits) => print_profits(rt, profits),
+        Err(r) => print_fault(rt, r),
     }
 }
 
 // The rack of the plates that are set, with the arrays as its plans.
-pub fn run_rack(
-    rt: &impl Print,
-    t: &Words,
-    block: &[u8],
-    kinds: &[u8],
-    operands: &[u16],
-) -> io::Result<()> {
+pub fn run_rack(rt: &impl Print, t: &Words, case: Case) -> io::Result<()> {
     let lengths = numbers(t, PLATE_LENGTHS);
     let widths = numbers(t, PLATE_WIDTHS);
     print_answer(
         rt,
         check_plates(
-            block,
-            choices(t),
+            case.block,
+            case.choices,
             first_numbers(t, PLATE_LENGTHS, &lengths),
             first_numbers(t, PLATE_WIDTHS, &widths),
-            kinds,
-            operands,
+            case.kinds,
+            case.operands,
         ),
     )
 }

@@ -1,14 +1,13 @@
 // The saw: its check of plans, and the part of the arrays that belongs to a node.
 use crate::check::print_copies;
-use crate::lent::{NODE, choices, print_byte, print_fault, widen};
-use promises::{Checked, SawAnswer, SawReport};
+use crate::lent::{Case, NODE, print_each, print_fault};
+use promises::{Refusal, SawReport};
 use saw::{node_kinds, node_operands, saw_check};
 use std::io;
-use test_tools::{Words, print_numbers, print_value, text, word};
+use test_tools::{Words, print_numbers, text, word};
 
 fn print_report(rt: &impl Print, r: SawReport) -> io::Result<()> {
-    let copies = r.copies;
-    print_copies(rt, copies)?;
+    print_copies(rt, r.copies)?;
     print_numbers(
         rt,
         b" areas # # # #;",
@@ -16,57 +15,33 @@ fn print_report(rt: &impl Print, r: SawReport) -> io::Result<()> {
     )
 }
 
-fn print_answer(rt: &impl Print, a: SawAnswer) -> io::Result<()> {
-    let verdict = a.verdict;
-    let report = a.report;
-    match verdict {
-        Checked::Passed => print_report(rt, report),
-        Checked::Refused(r) => print_fault(rt, r),
+fn print_answer(rt: &impl Print, a: Result<SawReport, Refusal>) -> io::Result<()> {
+    match a {
+        Ok(report) => print_report(rt, report),
+        Err(r) => print_fault(rt, r),
     }
 }
 
 // The saw's check of the two arrays.
-pub fn run_saw(
-    rt: &impl Print,
-    t: &Words,
-    block: &[u8],
-    kinds: &[u8],
-    operands: &[u16],
-) -> io::Result<()> {
-    print_answer(rt, saw_check(block, choices(t), kinds, operands))
-}
-
-fn print_kinds(rt: &impl Print, part: &[u8]) -> io::Result<()> {
-    for i in 0..part.len() {
-        print_byte(rt, part[i])?;
-    }
-    Ok(())
-}
-
-fn print_operand(rt: &impl Print, operand: u16) -> io::Result<()> {
-    print_value(rt, b" #", widen(operand))
-}
-
-fn print_operands(rt: &impl Print, part: &[u16]) -> io::Result<()> {
-    for i in 0..part.len() {
-        print_operand(rt, part[i])?;
-    }
-    Ok(())
+pub fn run_saw(rt: &impl Print, case: Case) -> io::Result<()> {
+    print_answer(
+        rt,
+        saw_check(case.block, case.choices, case.kinds, case.operands),
+    )
 }
 
 // The part of both arrays that belongs to the node that is set.
-pub fn run_entries(
-    rt: &impl Print,
-    t: &Words,
-    block: &[u8],
-    kinds: &[u8],
-    operands: &[u16],
-) -> io::Result<()> {
-    let c = choices(t);
+pub fn run_entries(rt: &impl Print, t: &Words, case: Case) -> io::Result<()> {
+    let Case {
+        block,
+        choices,
+        kinds,
+        operands,
+    } = case;
     let node = word(t, NODE, 1);
     text(rt, b" kinds")?;
-    print_kinds(rt, node_kinds(block, c, kinds, operands, node))?;
+    print_each(rt, node_kinds(block, choices, kinds, operands, node))?;
     text(rt, b" operands")?;
-    print_operands(rt, node_operands(block, c, kinds, operands, node))?;
+    print_each(rt, node_operands(block, choices, kinds, operands, node))?;
     text(rt, b";")
 }

@@ -1,6 +1,6 @@
 // The writing of plans.
-use crate::lent::{KINDS, OPERANDS, WEIGHTS, choices, count, other_choices, print_refused, widen};
-use promises::{Choices, WriteAnswer, WriteReport};
+use crate::lent::{Case, KINDS, OPERANDS, WEIGHTS, count, other_choices, print_refused};
+use promises::{Refusal, WriteReport};
 use std::io;
 use test_tools::{
     Words, bytes, first_bytes, lend_bytes, lend_numbers, numbers, print_numbers, text,
@@ -13,60 +13,60 @@ fn print_report(rt: &impl Print, r: WriteReport) -> io::Result<()> {
         b" bound # capacity # lengths # widths # nodes #",
         &[
             r.bound,
-            widen(r.capacity),
-            widen(r.length_count),
-            widen(r.columns),
+            u64::from(r.capacity),
+            u64::from(r.length_count),
+            u64::from(r.columns),
             r.nodes,
         ],
     )
 }
 
-fn print_answer(rt: &impl Print, a: WriteAnswer) -> io::Result<()> {
+fn print_answer(rt: &impl Print, a: Result<WriteReport, Refusal>) -> io::Result<()> {
     match a {
-        WriteAnswer::Written(report) => print_report(rt, report),
-        WriteAnswer::Refused(r) => print_refused(rt, r),
+        Ok(report) => print_report(rt, report),
+        Err(r) => print_refused(rt, r),
     }
 }
 
-pub fn print_entry(rt: &impl Print, kind: u8, operand: u64) -> io::Result<()> {
-    print_numbers(rt, b" #.#", &[kind as u64, operand])
-}
-
 // Seven entries of both arrays.
-pub fn print_entries(
+pub fn print_entries<T: Copy + Into<u64>>(
     rt: &impl Print,
-    kinds: &[u8; 5000],
-    operands: &[u16; 5000],
+    kinds: &[u8],
+    operands: &[T],
 ) -> io::Result<()> {
     text(rt, b":")?;
-    for i in 0..7 {
-        print_entry(rt, kinds[i], widen(operands[i]))?;
+    for (kind, operand) in kinds.iter().zip(operands).take(7) {
+        print_numbers(rt, b" #.#", &[u64::from(*kind), (*operand).into()])?;
     }
     Ok(())
 }
 
 // The call, or the one of the full demands, with lists of 1,001 entries and a table of 4,096 words.
-fn write(c: Choices, block: &[u8], weights: &[u8], ks: &mut [u8], os: &mut [u16]) -> WriteAnswer {
+fn write(
+    case: Case,
+    weights: &[u8],
+    ks: &mut [u8],
+    os: &mut [u16],
+) -> Result<WriteReport, Refusal> {
     let mut l = [0u16; 1001];
     let mut w = [0u16; 1001];
     let mut m = [0u64; 4096];
-    let other = other_choices(c);
-    if c.full_demand {
-        return write_plan_full_demand(block, other, weights, &mut l, &mut w, &mut m, ks, os);
+    let other = other_choices(case.choices);
+    if case.choices.full_demand {
+        return write_plan_full_demand(case.block, other, weights, &mut l, &mut w, &mut m, ks, os);
     }
-    write_plan(block, other, weights, &mut l, &mut w, &mut m, ks, os)
+    write_plan(case.block, other, weights, &mut l, &mut w, &mut m, ks, os)
 }
 
 // A plan written into the arrays, and their entries where there are seven.
-pub fn run_write(rt: &impl Print, t: &Words, block: &[u8]) -> io::Result<()> {
+pub fn run_write(rt: &impl Print, t: &Words, case: Case) -> io::Result<()> {
     let weights = bytes(t, WEIGHTS);
     let mut kinds = bytes(t, KINDS);
     let mut operands = numbers(t, OPERANDS);
     print_answer(
         rt,
         write(
-            choices(t),
-            block,
+            case,
             first_bytes(t, WEIGHTS, &weights),
             lend_bytes(t, KINDS, &mut kinds),
             lend_numbers(t, OPERANDS, &mut operands),

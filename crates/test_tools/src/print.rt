@@ -7,35 +7,28 @@ pub fn text(rt: &impl Print, s: &[u8]) -> io::Result<()> {
 }
 
 pub fn print_byte(rt: &impl Print, b: u8) -> io::Result<()> {
-    let one = [b; 1];
-    text(rt, &one)
+    text(rt, &[b])
 }
 
-fn print_number(rt: &impl Print, x: u64) -> io::Result<()> {
-    rt.print(x)
-}
-
-fn number_at(numbers: &[u64], i: usize) -> u64 {
-    if i < numbers.len() { numbers[i] } else { 0 }
-}
-
-// Prints a byte, or the k-th number in place of #, and answers which number is next.
-fn print_part(rt: &impl Print, b: u8, numbers: &[u64], k: usize) -> io::Result<usize> {
-    if b == b'#' {
-        print_number(rt, number_at(numbers, k))?;
-        return Ok(plus(k, 1));
+// Prints a form with numbers in the places of #: in the k-th place the k-th.
+fn print_form<F: Fn(usize) -> u64>(rt: &impl Print, form: &[u8], number: &F) -> io::Result<()>
+    requires { F.IsAlwaysCallable number.now }
+{
+    let mut k: usize = 0;
+    for &b in form {
+        if b == b'#' {
+            rt.print(number(k))?;
+            k = plus(k, 1);
+        } else {
+            print_byte(rt, b)?;
+        }
     }
-    print_byte(rt, b)?;
-    Ok(k)
+    Ok(())
 }
 
 // Prints a form with numbers, in turn, in the places of #.
 pub fn print_numbers(rt: &impl Print, form: &[u8], numbers: &[u64]) -> io::Result<()> {
-    let mut k: usize = 0;
-    for i in 0..form.len() {
-        k = print_part(rt, form[i], numbers, k)?;
-    }
-    Ok(())
+    print_form(rt, form, &|k: usize| numbers.get(k).copied().unwrap_or(0))
 }
 
 // Prints a form with one number in the place of #.
@@ -43,20 +36,7 @@ pub fn print_value(rt: &impl Print, form: &[u8], x: u64) -> io::Result<()> {
     print_numbers(rt, form, &[x])
 }
 
-fn print_word_part(rt: &impl Print, b: u8, t: &Words, k: usize) -> io::Result<usize> {
-    if b == b'#' {
-        print_number(rt, word(t, k, 0) as u64)?;
-        return Ok(plus(k, 1));
-    }
-    print_byte(rt, b)?;
-    Ok(k)
-}
-
 // Prints a form with words, from a place on, in the places of #.
 pub fn print_words(rt: &impl Print, form: &[u8], t: &Words, from: usize) -> io::Result<()> {
-    let mut k = from;
-    for i in 0..form.len() {
-        k = print_word_part(rt, form[i], t, k)?;
-    }
-    Ok(())
+    print_form(rt, form, &|k: usize| word(t, from, k) as u64)
 }

@@ -25,16 +25,15 @@ const FIRST: usize = 4;
 
 const SIGN: usize = 5;
 
+// The letter of no command: a command that has it is read over.
+const NONE: u8 = 1;
+
 // The most bytes of a command.
 const LONGEST: usize = 65536;
 
-fn widen(b: u8) -> usize {
-    b as usize
-}
-
 fn begin_command(t: &mut Words, letter: u8) {
     t[PART] = 2;
-    t[LETTER] = widen(letter);
+    t[LETTER] = usize::from(letter);
     t[COUNT] = 0;
 }
 
@@ -57,7 +56,7 @@ fn go_on_text(rt: &impl Print, t: &mut Words, b: u8) -> io::Result<()> {
 }
 
 fn add_digit(t: &mut Words, digit: u8) {
-    t[VALUE] = plus(times(10, t[VALUE]), widen(digit));
+    t[VALUE] = plus(times(10, t[VALUE]), usize::from(digit));
     t[DIGITS] = 1;
 }
 
@@ -132,30 +131,21 @@ fn next_byte(input: &mut impl Read) -> io::Result<u8> {
     Ok(byte[0])
 }
 
-// Reads the next byte unless a command is complete or the script has ended, and answers the letter of the command that is complete
-// then, 1 where none is, and 0 at the end of the script.
-fn read_on(rt: &impl Print, input: &mut impl Read, t: &mut Words, letter: u8) -> io::Result<u8> {
-    if letter != 1 {
-        return Ok(letter);
-    }
-    let b = next_byte(input)?;
-    if b == 0 {
-        return Ok(0);
-    }
-    if read(rt, t, b)? {
-        Ok((t[LETTER] % 256) as u8)
-    } else {
-        Ok(1)
-    }
-}
-
-// Reads up to the end of the next command, and answers its letter, or 0 at the end of the script.
+// Reads up to the end of the next command, and answers its letter, or 0 at the end of the script and `NONE` where the command is too long.
 pub fn next_command(rt: &impl Print, input: &mut impl Read, t: &mut Words) -> io::Result<u8> {
-    let mut letter: u8 = 1;
-    for i in 0..LONGEST {
-        letter = read_on(rt, input, t, letter)?;
+    for _ in 0..LONGEST {
+        let b = next_byte(input)?;
+        if b == 0 {
+            return Ok(0);
+        }
+        if read(rt, t, b)? {
+            let letter = (t[LETTER] % 256) as u8;
+            if letter != NONE {
+                return Ok(letter);
+            }
+        }
     }
-    Ok(letter)
+    Ok(NONE)
 }
 
 // Copies the numbers of the command: how many there are, and then each.

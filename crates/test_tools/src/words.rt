@@ -1,60 +1,45 @@
 // Words of one array and arithmetic, each guarded: a place past the end is counted from the start again, and no sum or product
 // overflows.
-ghost use Rattle.std.specs.Prelude.{◌≤◌};
-
 pub type Words = [usize; 65536];
 
 pub fn word(t: &Words, from: usize, i: usize) -> usize {
-    t[std::num::wrapping_add_usize(from, i) % 65536]
+    t[plus(from, i) % 65536]
 }
 
 pub fn put(t: &mut Words, from: usize, i: usize, x: usize) {
-    t[std::num::wrapping_add_usize(from, i) % 65536] = x;
+    t[plus(from, i) % 65536] = x;
 }
 
 pub fn plus(a: usize, b: usize) -> usize {
-    std::num::wrapping_add_usize(a, b)
+    a.wrapping_add(b)
 }
 
 // a - b, and 0 where b is greater.
 pub fn minus(a: usize, b: usize) -> usize {
-    if b <= a { a - b } else { 0 }
+    a.saturating_sub(b)
 }
 
 // a * b for numbers below 4,294,967,296, and 0 for others.
 pub fn times(a: usize, b: usize) -> usize {
-    if a < 4294967296 {
-        if b < 4294967296 {
-            return a * b;
-        }
+    if a < 4294967296 && b < 4294967296 {
+        a * b
+    } else {
+        0
     }
-    0
 }
 
 // The remainder, and 0 where there is none.
 pub fn rest(a: usize, b: usize) -> usize {
-    if b == 0 {
-        return 0;
-    }
-    a % b
+    a.checked_rem(b).unwrap_or(0)
 }
 
 // The quotient, and 0 where there is none.
 pub fn quotient(a: usize, b: usize) -> usize {
-    if b == 0 {
-        return 0;
-    }
-    a / b
+    a.checked_div(b).unwrap_or(0)
 }
 
 pub fn larger(a: usize, b: usize) -> usize {
-    if a < b { b } else { a }
-}
-
-pub fn smaller(a: usize, b: usize) -> usize
-    ensures { result ≤ b }
-{
-    if a < b { a } else { b }
+    a.max(b)
 }
 
 // Adds a number to a word.

@@ -1,5 +1,5 @@
 -- The statement of specs/TrueBest, from the promises of the calls.
-use mathlib.Core.Path.{◌≡◌, refl, sym, ◌∙◌, ap, subst}
+use mathlib.Core.Path.{◌≡◌, sym, ◌∙◌, ap, subst}
 use mathlib.Core.List.{List}
 use Prim.Native.Nat.{ℕ, ◌≤◌}
 use Rattle.cutting.specs.Tree.{Rect, Tree}
@@ -9,26 +9,20 @@ use Rattle.cutting.specs.Shares.{stages}
 use Rattle.cutting.specs.Job.{Job, profit}
 use Rattle.cutting.specs.Promises.{NoneAbove}
 use Rattle.cutting.specs.Relaxation.{ChainsFit}
-use Rattle.refusal.specs.Refusals.{next, first_refusal}
-use Rattle.promises.specs.declared.Checked.{Checked}
-use Rattle.promises.specs.declared.Checked.TheVariants.{Passed, Refused}
+use Rattle.refusal.specs.Refusals.{passed, verdict_of, next, first_refusal}
+use Rattle.refusal.proofs.Results.{value_answered}
 use Rattle.promises.specs.declared.Choices.{Choices}
 use Rattle.job.specs.Block.{record_of, job_checks}
 use Rattle.job.specs.Weights.{block_job}
 use Rattle.job.proofs.Checks.{passed_both}
 use Rattle.sizes.specs.Sizes.{sizes_checks}
 use Rattle.promises.specs.declared.Report.{Report}
+use Rattle.promises.specs.declared.TrueReport.{TrueReport}
 use Rattle.plan.specs.Plan.{plan_answer}
 use Rattle.plan.specs.Trees.{tree_in, PlanOf}
 use Rattle.neat.specs.Neat.{written_by}
-use Rattle.promises.specs.declared.TruePlanAnswer.TheVariants as answer
-use Rattle.true_plan.specs.TruePlan.{true_verdict, true_answer_by, block_true, block_neat, block_used, SizesPass, TruePlan, Best}
+use Rattle.true_plan.specs.TruePlan.{true_verdict, report_of, block_true, block_neat, block_used, SizesPass, TruePlan, Best}
 use Rattle.true_best.specs.TrueBest.{ModelPasses, PlanEarns, TrueWritten, Holds, TrueBest}
-
--- an answer that says "written" comes from checks that passed, and has the tree's own numbers
-said : (v : Checked) (n : ℕ) (u : Rect) {nodes l w : ℕ} → answer.Written nodes l w ≡ true_answer_by v n u → (v ≡ Passed) × (nodes ≡ n) × (l ≡ u.0) × (w ≡ u.1)
-said Passed n u e = (refl, cc, cc, cc)
-said (Refused r) n u e = (cc, cc, cc, cc)
 
 module _ (s : List ℕ) (choices : Choices) (z kinds operands : List ℕ) where
   abbrev M : Job
@@ -40,15 +34,15 @@ module _ (s : List ℕ) (choices : Choices) (z kinds operands : List ℕ) where
   abbrev t : Tree Piece
   t = tree_in kinds operands
 
-  module _ {ok op nk np : List ℕ} {nodes l w : ℕ} (given : TrueWritten s choices z kinds operands ok op nk np nodes l w) where
-    numbers : (true_verdict s choices z kinds operands ok op ≡ Passed) × (nodes ≡ node_count (block_neat s choices z kinds operands)) × (l ≡ (block_used s choices z kinds operands).0) × (w ≡ (block_used s choices z kinds operands).1)
-    numbers = said (true_verdict s choices z kinds operands ok op) (node_count (block_neat s choices z kinds operands)) (block_used s choices z kinds operands) (sym given.written ∙ given.promised.answers)
+  module _ {ok op nk np : List ℕ} {b : TrueReport} (given : TrueWritten s choices z kinds operands ok op nk np b) where
+    numbers : (true_verdict s choices z kinds operands ok op ≡ passed) × (b ≡ report_of (node_count (block_neat s choices z kinds operands)) (block_used s choices z kinds operands))
+    numbers = value_answered _ _ (sym given.promised.answers ∙ given.written)
 
-    passes : (first_refusal (job_checks s choices) ≡ Passed) × SizesPass s choices z × ((plan_answer M kinds operands).verdict ≡ Passed)
+    passes : (first_refusal (job_checks s choices) ≡ passed) × SizesPass s choices z × (verdict_of (plan_answer M kinds operands) ≡ passed)
     passes =
         let a = passed_both (first_refusal (job_checks s choices)) _ numbers.0 in
-        let b = passed_both (first_refusal (sizes_checks M.count z)) _ a.1 in
-        (a.0, b.0, (passed_both (plan_answer M kinds operands).verdict _ b.1).0)
+        let c = passed_both (first_refusal (sizes_checks M.count z)) _ a.1 in
+        (a.0, c.0, (passed_both (verdict_of (plan_answer M kinds operands)) _ c.1).0)
 
     plan : TruePlan M J t kinds operands
     plan = given.promised.plan passes.0 passes.1 passes.2
@@ -68,18 +62,18 @@ module _ (s : List ℕ) (choices : Choices) (z kinds operands : List ℕ) where
     within {limit} u d h = subst (λ x. stages x ≤ limit) (plan.only u d.drawn) h
 
     earned : {n : ℕ} → PlanEarns s choices kinds operands n → profit M t ≡ n
-    earned e = let u = e.promised.tree e.passed in own u.0 u.1 (sym (ap (λ (r : Report). r.profit) u.2.own) ∙ e.earns)
+    earned e = let u = e.promised.tree _ e.answered in own u.0 u.1 (sym (ap (λ (r : Report). r.profit) u.2.own) ∙ e.earns)
 
     best : {n : ℕ} → ModelPasses s choices z → profit M t ≡ n → NoneAbove M n → Best J (block_neat s choices z kinds operands) n
     best m e none = plan.best (chains m) fits _ e none
 
-    holds : Holds J (block_neat s choices z kinds operands) ok op nk np nodes l w
+    holds : Holds J (block_neat s choices z kinds operands) ok op nk np b
     holds = record {
       kinds_hold = given.promised.memory.kinds ∙ ap (λ v. written_by v (kinds_of (block_neat s choices z kinds operands)) ok) numbers.0;
       positions_hold = given.promised.memory.operands ∙ ap (λ v. written_by v (operands_of (block_neat s choices z kinds operands)) op) numbers.0;
-      counted = numbers.1;
-      long = numbers.2 ∙ sym (ap (λ (r : Rect). r.0) plan.used);
-      wide = numbers.3 ∙ sym (ap (λ (r : Rect). r.1) plan.used);
+      counted = ap (λ (b : TrueReport). b.nodes) numbers.1;
+      long = ap (λ (b : TrueReport). b.length) numbers.1 ∙ sym (ap (λ (r : Rect). r.0) plan.used);
+      wide = ap (λ (b : TrueReport). b.width) numbers.1 ∙ sym (ap (λ (r : Rect). r.1) plan.used);
     }
 
   pub true_best : TrueBest s choices z kinds operands

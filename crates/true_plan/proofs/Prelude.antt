@@ -29,19 +29,19 @@ pub use Rattle.neat.specs.declared.Used.{Used}
 pub use Rattle.plan.proofs.Drawn.{drawn_is, plan_is, trees_are}
 pub use Rattle.plan.specs.Plan.{nodes_in, plan_answer}
 pub use Rattle.plan.specs.Trees.{DrawnAs, PlanOf, tree_in, trees_in}
-pub use Rattle.promises.specs.declared.Checked.{Checked}
-pub use Rattle.promises.specs.declared.Checked.TheVariants.{Passed, Refused}
 pub use Rattle.promises.specs.declared.Choices.{Choices}
-pub use Rattle.promises.specs.declared.JobAnswer.{JobAnswer}
 pub use Rattle.promises.specs.declared.JobRecord.{JobRecord}
-pub use Rattle.promises.specs.declared.PlanAnswer.{PlanAnswer}
 pub use Rattle.promises.specs.declared.Refusal.{Refusal}
 pub use Rattle.promises.specs.declared.Refusal.TheVariants.{PlanLong, TrueMisfit}
-pub use Rattle.promises.specs.declared.TruePlanAnswer.{TruePlanAnswer}
 pub use Rattle.refusal.specs.Refusals.{next, outcome_by}
 unfoldable pub use Rattle.refusal.specs.Refusals.{first_refusal}
 pub use Rattle.sizes.specs.Sizes.{TrueRange, sizes_checks, sizes_of, sizes_read, true_job}
-pub use Rattle.sizes.specs.declared.SizesAnswer.{SizesAnswer}
 pub use Rattle.sizes.specs.declared.TrueSizes.{TrueSizes}
 pub use Rattle.true_plan.specs.Calls.{TruePlanned, true_laid, true_plate}
-pub use Rattle.true_plan.specs.TruePlan.{SizesPass, TrueJudged, TruePlan, TruePromises, block_neat, block_true, block_used, fit_checks, true_answer_by, true_checked, true_outcome, true_verdict}
+pub use Rattle.true_plan.specs.TruePlan.{SizesPass, TrueJudged, TruePlan, TruePromises, block_neat, block_true, block_used, fit_checks, report_of, true_checked, true_values, true_verdict}
+pub use Rattle.std.proofs.Common.{Ok, Err}
+pub use Rattle.promises.specs.Refusals.{Checked, Answer, passed, answer_by, verdict_of, outcome_of}
+pub use Rattle.promises.specs.declared.Report.{Report}
+pub use Rattle.promises.specs.declared.TrueReport.{TrueReport}
+pub use Rattle.std.specs.Result.{IsErrAnd}
+pub use Rattle.refusal.proofs.Results.{handed, said_by, value_answered, refusal_answered}

@@ -13,9 +13,7 @@ use Rattle.cutting.specs.Promises.{NoneAbove, NoneBetter}
 use Rattle.cutting.specs.Staged.{NoneStaged, NoneStagedBetter}
 use Rattle.cutting.specs.Neat.{used_of, neat_of}
 use Rattle.cutting.specs.Relaxation.{ChainsFit}
-use Rattle.refusal.specs.Refusals.{Check, Outcome, next, first_refusal, by_check, outcome_by}
-use Rattle.promises.specs.declared.Checked.{Checked}
-use Rattle.promises.specs.declared.Checked.TheVariants.{Passed}
+use Rattle.refusal.specs.Refusals.{Check, Outcome, next, first_refusal, outcome_by}
 use Rattle.promises.specs.declared.Refusal.TheVariants.{TrueMisfit}
 use Rattle.promises.specs.declared.Choices.{Choices}
 use Rattle.job.specs.Block.{job_checks}
@@ -25,9 +23,9 @@ use Rattle.plan.specs.Plan.{plan_answer}
 use Rattle.plan.specs.Trees.{tree_in, DrawnAs, PlanOf}
 use Rattle.plan.specs.Calls.{JobPasses}
 use Rattle.neat.specs.Neat.{neat_tree, output_check, NeatLeaves}
-use Rattle.promises.specs.declared.TruePlanAnswer.{TruePlanAnswer}
-use Rattle.promises.specs.declared.TruePlanAnswer.TheVariants as answer
-pub use Rattle.promises.specs.True.{true_outcome}
+pub use Rattle.promises.specs.True.{true_values}
+use Rattle.promises.specs.Refusals.{passed, Checked, Answer, answer_by, verdict_of, outcome_of}
+use Rattle.promises.specs.declared.TrueReport.{TrueReport}
 
 -- check 34: the used length is more than the plate's, and then the used width
 abbrev pub fit_checks : Rect → Rect → List Check
@@ -36,7 +34,7 @@ fit_checks plate used = (ltb plate.0 used.0, TrueMisfit 0) ∷ (ltb plate.1 used
 -- the verdict for a model M that was read and its true job J: the model's plan check, then 34, then 21
 abbrev pub true_checked : Job → Job → (kinds operands old_kinds old_positions : List ℕ) → Checked
 true_checked M J kinds operands old_kinds old_positions =
-    next (plan_answer M kinds operands).verdict
+    next (verdict_of (plan_answer M kinds operands))
     (first_refusal (fit_checks J.plate (used_of J (tree_in kinds operands)) ++ (output_check (neat_tree J kinds operands) (length old_kinds) (length old_positions) ∷ [])))
 
 -- the true job of a job block and a sizes block
@@ -45,7 +43,7 @@ block_true s choices z = true_job (block_job s choices) (sizes_of (block_job s c
 
 -- the sizes block passes its checks
 abbrev pub SizesPass : List ℕ → Choices → List ℕ → Type 0
-SizesPass s choices z = first_refusal (sizes_checks (block_job s choices).count z) ≡ Passed
+SizesPass s choices z = first_refusal (sizes_checks (block_job s choices).count z) ≡ passed
 
 -- the verdict of the call: the checks of the job and of the sizes come first
 abbrev pub true_verdict : List ℕ → Choices → (z kinds operands old_kinds old_positions : List ℕ) → Checked
@@ -61,14 +59,14 @@ block_neat s choices z kinds operands = neat_tree (block_true s choices z) kinds
 abbrev pub block_used : List ℕ → Choices → (z kinds operands : List ℕ) → Rect
 block_used s choices z kinds operands = used_of (block_true s choices z) (tree_in kinds operands)
 
--- the number of nodes and the used size, or the refusal
-abbrev pub true_answer_by : Checked → ℕ → Rect → TruePlanAnswer
-true_answer_by v n used = by_check v (answer.Written n used.0 used.1) answer.Refused
+-- what is reported of a tree: its number of nodes, and its used size
+abbrev pub report_of : ℕ → Rect → TrueReport
+report_of n used = record { nodes = n; length = used.0; width = used.1 }
 
 -- what the call answers
-abbrev pub true_answer : List ℕ → Choices → (z kinds operands old_kinds old_positions : List ℕ) → TruePlanAnswer
+abbrev pub true_answer : List ℕ → Choices → (z kinds operands old_kinds old_positions : List ℕ) → Answer TrueReport
 true_answer s choices z kinds operands old_kinds old_positions =
-    true_answer_by (true_verdict s choices z kinds operands old_kinds old_positions) (node_count (block_neat s choices z kinds operands)) (block_used s choices z kinds operands)
+    answer_by (true_verdict s choices z kinds operands old_kinds old_positions) (report_of (node_count (block_neat s choices z kinds operands)) (block_used s choices z kinds operands))
 
 -- the number and values that it answers
 abbrev pub true_said : List ℕ → Choices → (z kinds operands old_kinds old_positions : List ℕ) → Outcome
@@ -111,14 +109,14 @@ pub record TruePlan (M J : Job) (t : Tree laid.Piece) (kinds operands : List ℕ
 -- where a job block, a sizes block and a plan's arrays pass their checks, what holds of the true plan
 abbrev pub TrueJudged : List ℕ → Choices → (z kinds operands : List ℕ) → Type 0
 TrueJudged s choices z kinds operands =
-    JobPasses s choices → SizesPass s choices z → (plan_answer (block_job s choices) kinds operands).verdict ≡ Passed
+    JobPasses s choices → SizesPass s choices z → verdict_of (plan_answer (block_job s choices) kinds operands) ≡ passed
     → TruePlan (block_job s choices) (block_true s choices z) (tree_in kinds operands) kinds operands
 
 -- what the call promises of its answer and of the output arrays: answer and arrays are the definitions', number and values too; where it
 -- passes, the used size is within the plate; and where the blocks and the plan pass their checks, what holds of the true plan
-pub record TruePromises (s : List ℕ) (choices : Choices) (z kinds operands old_kinds old_positions new_kinds new_positions : List ℕ) (r : TruePlanAnswer) : Type 0 where
+pub record TruePromises (s : List ℕ) (choices : Choices) (z kinds operands old_kinds old_positions new_kinds new_positions : List ℕ) (r : Answer TrueReport) : Type 0 where
   pub answers : r ≡ true_answer s choices z kinds operands old_kinds old_positions
-  pub outcome : true_outcome r ≡ true_said s choices z kinds operands old_kinds old_positions
+  pub outcome : outcome_of true_values r ≡ true_said s choices z kinds operands old_kinds old_positions
   pub memory : NeatLeaves (true_verdict s choices z kinds operands old_kinds old_positions) (block_neat s choices z kinds operands) old_kinds old_positions new_kinds new_positions
-  pub fits : true_verdict s choices z kinds operands old_kinds old_positions ≡ Passed → block_used s choices z kinds operands ⊑ (block_true s choices z).plate
+  pub fits : true_verdict s choices z kinds operands old_kinds old_positions ≡ passed → block_used s choices z kinds operands ⊑ (block_true s choices z).plate
   pub plan : TrueJudged s choices z kinds operands

@@ -19,7 +19,7 @@ use job::read_job;
 use neat::{Entry, Used, advance, count_pieces, nodes_for, turned, used_at};
 use node::decode;
 use plan::check_nodes;
-use promises::{Checked, Choices, JobRecord, Node, Refusal, TruePlanAnswer};
+use promises::{Choices, JobRecord, Node, Refusal, TrueReport};
 use sizes::{TrueSizes, read_sizes};
 
 // The true size of a kind.
@@ -128,38 +128,42 @@ fn true_nodes(
     operands: &[u16],
     true_kinds: &mut [u8],
     positions: &mut [u32],
-) -> TruePlanAnswer
+) -> Result<TrueReport, Refusal>
     requires { InRange (job_of job) × TrueRange (true_job (job_of job) sizes) }
     ensures { TruePlanned (true_checked (job_of job) (true_job (job_of job) sizes) kinds.now operands.now true_kinds.old positions.old) (true_job (job_of job) sizes) (tree_in kinds.now operands.now)
         true_kinds.old positions.old true_kinds.new positions.new result }
 {
-    let checked = check_nodes(job, kinds, operands);
-    let verdict = checked.verdict;
-    if let Checked::Refused(r) = verdict {
-        return TruePlanAnswer::Refused(r);
-    }
+    check_nodes(job, kinds, operands)?;
     let used = used_size(sizes, kinds, operands);
     if sizes.length < used.length {
-        return TruePlanAnswer::Refused(Refusal::TrueMisfit(0));
+        return Err(Refusal::TrueMisfit(0));
     }
     if sizes.width < used.width {
-        return TruePlanAnswer::Refused(Refusal::TrueMisfit(1));
+        return Err(Refusal::TrueMisfit(1));
     }
     let pieces = count_pieces(kinds);
     let needed = nodes_for(pieces);
     if true_kinds.len() < needed {
-        return TruePlanAnswer::Refused(Refusal::PlanLong(needed as u64));
+        return Err(Refusal::PlanLong(needed as u64));
     }
     if positions.len() < needed {
-        return TruePlanAnswer::Refused(Refusal::PlanLong(needed as u64));
+        return Err(Refusal::PlanLong(needed as u64));
     }
     if pieces == 0 {
         true_kinds[0] = 0;
         positions[0] = 0;
-        return TruePlanAnswer::Written(1, 0, 0);
+        return Ok(TrueReport {
+            nodes: 1,
+            length: 0,
+            width: 0,
+        });
     }
     write_nodes(sizes, kinds, operands, true_kinds, positions, needed);
-    TruePlanAnswer::Written(needed as u64, used.length as u64, used.width as u64)
+    Ok(TrueReport {
+        nodes: needed as u64,
+        length: used.length as u64,
+        width: used.width as u64,
+    })
 }
 
 // The true plan of a plan's arrays for a job block and a sizes block, in the first entries of the two output arrays: the same pieces, every
@@ -173,20 +177,10 @@ pub fn true_plan(
     operands: &[u16],
     true_kinds: &mut [u8],
     positions: &mut [u32],
-) -> TruePlanAnswer
+) -> Result<TrueReport, Refusal>
     ensures { TruePromises block.now choices sizes.now kinds.now operands.now true_kinds.old positions.old true_kinds.new positions.new result }
 {
-    let read = read_job(block, choices);
-    let verdict = read.verdict;
-    if let Checked::Refused(r) = verdict {
-        return TruePlanAnswer::Refused(r);
-    }
-    let job = read.job;
-    let measured = read_sizes(sizes, job.count);
-    let second = measured.verdict;
-    if let Checked::Refused(r) = second {
-        return TruePlanAnswer::Refused(r);
-    }
-    let true_sizes = measured.sizes;
+    let job = read_job(block, choices)?;
+    let true_sizes = read_sizes(sizes, job.count)?;
     true_nodes(job, true_sizes, kinds, operands, true_kinds, positions)
 }

@@ -1,6 +1,7 @@
 -- What the call promises, from the verdicts of job and weights and from the bound of an accepted job.
-use Rattle.two_bound.proofs.Prelude.{◌≡◌, refl, sym, ◌∙◌, ap, ap₂, subst, List, ℕ, ◌≤◌, arith, length, Sides, rect_of, sides_of, Job, SolidKinds, InRange, widened, capacity, at_full_demand, ordered, members, pieces, figure_two, two_bound, TwoFiguresMost, listed_weight, pieces_job, PieceArray, range_solid, widened_solid, none_finer, two_finer, capacity_less, two_recursion, two_floor, two_figures, two_most, two_holds, two_ceiling, normal_listed, next, first_refusal, outcome_by, Refusal, Checked, Passed, Refused, Choices, JobRecord, JobAnswer, job_checks, record_of, read_of, job_of, block_job, weight_in, first_append, append_passed, passed_append, passed_both, answered, refused, read_in_range, pair_count, figure_pair, pair_state, Memory, wide_job, block_capacity, pieces_range, two_checks, two_storage_checks, two_answer_by, TwoLeaves, weighed_verdict, BothAccepted, two_verdict, block_figure, two_block_report, two_answer, two_values, two_outcome, TwoHolds, TwoPromises, Statable, Stated, Pairable, Paired, TwoReport, TwoAnswer}
-use Rattle.promises.specs.declared.TwoAnswer.TheVariants as answer
+use Rattle.two_bound.proofs.Prelude.{◌≡◌, refl, sym, ◌∙◌, ap, ap₂, subst, List, ℕ, ◌≤◌, arith, length, Sides, rect_of, sides_of, Job, SolidKinds, InRange, widened, capacity, at_full_demand, ordered, members, pieces, figure_two, two_bound, TwoFiguresMost, listed_weight, pieces_job, PieceArray, range_solid, widened_solid, none_finer, two_finer, capacity_less, two_recursion, two_floor, two_figures, two_most, two_holds, two_ceiling, normal_listed, first_refusal, Refusal, Choices, JobRecord, job_checks, record_of, read_of, job_of, block_job, weight_in, first_append, append_passed, passed_append, passed_both, answered, refused, read_in_range, pair_count, figure_pair, pair_state, Memory, wide_job, block_capacity, pieces_range, two_checks, two_storage_checks, answer_by, weighed_two, Capacities, TwoLeaves, weighed_verdict, BothAccepted, two_verdict, block_figure, two_block_report, two_answer, two_values, two_outcome, TwoHolds, TwoPromises, Statable, Stated, Pairable, Paired, TwoReport, Ok, Err, Answer}
+use Rattle.refusal.proofs.Results.{before_refuses, before_passes, refused_answer, said_by, value_answered, refusal_answered}
+use Rattle.std.specs.Result.{IsErrAnd}
 use Rattle.two_bound.proofs.Weights.{Weighs, both_passed}
 use Rattle.two_bound.proofs.States.{statable, stated_array}
 use Rattle.two_bound.proofs.Listed.{pieces_paired}
@@ -38,15 +39,6 @@ two_held J first second h = record {
   full_demand = two_full J first second (range_solid J h);
 }
 
-said_by : (v : Checked) (b : TwoReport) → two_outcome (two_answer_by v b) ≡ outcome_by v (two_values b)
-said_by Passed b = refl
-said_by (Refused r) b = refl
-
--- an answer with a report: the verdict passed, and it is the report
-answered_behind : (v : Checked) (b : TwoReport) {x : TwoReport} → answer.Answered x ≡ two_answer_by v b → (v ≡ Passed) × (x ≡ b)
-answered_behind Passed b e = (refl, cc)
-answered_behind (Refused r) b e = (cc, cc)
-
 module _ (s : List ℕ) (choices : Choices) (first second : List ℕ) where
   -- the job of an accepted block is in the scope's ranges
   in_range : BothAccepted s choices first second → InRange (block_job s choices)
@@ -57,22 +49,24 @@ module _ (s : List ℕ) (choices : Choices) (first second : List ℕ) where
   figures_held a = two_figures (block_job s choices) (weight_in first) (weight_in second) (range_solid (block_job s choices) (in_range a))
 
   -- the job is refused, or its weights are
-  pub job_refused : {a : JobAnswer} {r : Refusal} → a ≡ read_of s choices → a.verdict ≡ Refused r → weighed_verdict s choices first second ≡ Refused r
-  job_refused e p = first_append (job_checks s choices) (two_checks (block_job s choices) first second) ∙ ap (λ v. next v (first_refusal (two_checks (block_job s choices) first second))) (refused s choices e p)
+  pub job_refused : {a : Answer JobRecord} {x : Refusal} → a ≡ read_of s choices → a ≡ Err x → weighed_verdict s choices first second ≡ Err x
+  job_refused e p = first_append (job_checks s choices) (two_checks (block_job s choices) first second) ∙ before_refuses _ _ (refused s choices e p)
 
-  pub weights_refused : {a : JobAnswer} {v : Checked} {r : Refusal} → a ≡ read_of s choices → a.verdict ≡ Passed → v ≡ first_refusal (two_checks (job_of a.job) first second) → v ≡ Refused r → weighed_verdict s choices first second ≡ Refused r
+  pub weights_refused : {a : Answer JobRecord} {j : JobRecord} {w : Answer Capacities} {x : Refusal} → a ≡ read_of s choices → a ≡ Ok j → w ≡ weighed_two (job_of j) first second → w ≡ Err x
+      → weighed_verdict s choices first second ≡ Err x
   weights_refused e p f g =
       let j = answered s choices e p in
-      first_append (job_checks s choices) (two_checks (block_job s choices) first second) ∙ ap₂ next j.0 (sym (ap (λ j. first_refusal (two_checks (job_of j) first second)) j.1) ∙ sym f ∙ g)
+      first_append (job_checks s choices) (two_checks (block_job s choices) first second) ∙ before_passes _ _ j.0
+      ∙ ap (λ j. first_refusal (two_checks (job_of j) first second)) (sym j.1) ∙ refusal_answered _ _ (sym f ∙ g)
 
   module _ (old : Memory) where
     -- the answer and the memory give the rest
-    promised : {new : Memory} (r : TwoAnswer) → r ≡ two_answer s choices first second old
+    promised : {new : Memory} (r : Answer TwoReport) → r ≡ two_answer s choices first second old
         → TwoLeaves (weighed_verdict s choices first second) (wide_job s choices) (block_figure s choices first second) (block_capacity s choices first) (block_capacity s choices second) old new
         → TwoPromises s choices first second old new r
     promised {new} r e l = record {
       answers = e;
-      outcome = ap (λ x. two_outcome x) e ∙ said_by (two_verdict s choices first second old) (two_block_report s choices first second);
+      outcome = ap (λ x. two_outcome x) e ∙ said_by two_values (two_verdict s choices first second old) (two_block_report s choices first second);
       memory = l;
       exact = λ b f. held b (sym e ∙ f);
       recursion = two_recursion (wide_job s choices) (weight_in first) (weight_in second);
@@ -83,22 +77,21 @@ module _ (s : List ℕ) (choices : Choices) (first second : List ℕ) where
       one = λ same none. (e ∙ one_answer first second same none s choices old, one_memory first second same none s choices old new l);
     }
       where
-        held : (b : TwoReport) → two_answer s choices first second old ≡ answer.Answered b → TwoHolds (block_job s choices) (weight_in first) (weight_in second) b.first_capacity b.second_capacity b.bound
+        held : (b : TwoReport) → two_answer s choices first second old ≡ Ok b → TwoHolds (block_job s choices) (weight_in first) (weight_in second) b.first_capacity b.second_capacity b.bound
         held b f =
-            let w = answered_behind (two_verdict s choices first second old) (two_block_report s choices first second) (sym f) in
+            let w = value_answered _ _ f in
             let v = passed_both (weighed_verdict s choices first second) (first_refusal (two_storage_checks (wide_job s choices) (block_capacity s choices first) (block_capacity s choices second) old)) w.0 in
             rw w.1 (two_held (block_job s choices) (weight_in first) (weight_in second) (in_range v.0))
 
     -- a refusal before the storage checks changes nothing
-    pub early : (r : Refusal) → weighed_verdict s choices first second ≡ Refused r → TwoPromises s choices first second old old (answer.Refused r)
-    early r v = promised (answer.Refused r) (sym (ap (λ v. two_answer_by (next v (first_refusal (two_storage_checks (wide_job s choices) (block_capacity s choices first) (block_capacity s choices second) old))) (two_block_report s choices first second)) v))
-        (rw v (record { lengths = refl; widths = refl; table = refl }))
+    pub early : {x : Refusal} {r : Answer TwoReport} → weighed_verdict s choices first second ≡ Err x → IsErrAnd r (λ y. y ≡ x) → TwoPromises s choices first second old old r
+    early {r = r} v p = promised r (refused_answer _ _ _ (before_refuses _ _ v) p) (rw v (record { lengths = refl; widths = refl; table = refl }))
 
     -- job and weights are accepted
-    pub accepted : BothAccepted s choices first second → {new : Memory} (r : TwoAnswer)
+    pub accepted : BothAccepted s choices first second → {new : Memory} (r : Answer TwoReport)
         → Paired (wide_job s choices) (block_figure s choices first second) (block_capacity s choices first) (block_capacity s choices second) old new r → TwoPromises s choices first second old new r
     accepted v {new} r b =
-        promised r (b.answer ∙ sym (ap (λ v. two_answer_by (next v (first_refusal (two_storage_checks (wide_job s choices) (block_capacity s choices first) (block_capacity s choices second) old))) (two_block_report s choices first second)) v)) (rw v b.memory)
+        promised r (b.answer ∙ sym (ap (λ v. answer_by v (two_block_report s choices first second)) (before_passes _ _ v))) (rw v b.memory)
 
 -- a job and capacities that were taken from a block and two weights a kind which are accepted
 pub record TwoTaken (s : List ℕ) (choices : Choices) (first second : List ℕ) (j : JobRecord) (q q' : ℕ) : Type 0 where
@@ -110,21 +103,21 @@ pub record TwoTaken (s : List ℕ) (choices : Choices) (first second : List ℕ)
   pub weighs : Weighs (job_of j) first second
 
 -- the job that was read is in range
-pub range_read : (s : List ℕ) (choices : Choices) {a : JobAnswer} → a ≡ read_of s choices → a.verdict ≡ Passed → InRange (job_of a.job)
-range_read s choices e p = let j = answered s choices e p in rw j.1 (read_in_range s choices j.0)
+pub range_read : (s : List ℕ) (choices : Choices) {a : Answer JobRecord} {j : JobRecord} → a ≡ read_of s choices → a ≡ Ok j → InRange (job_of j)
+range_read s choices e p = let k = answered s choices e p in rw k.1 (read_in_range s choices k.0)
 
-pub two_taken : (s : List ℕ) (choices : Choices) (first second : List ℕ) {a : JobAnswer} {v : Checked} {q q' : ℕ} → a ≡ read_of s choices → a.verdict ≡ Passed
-    → v ≡ first_refusal (two_checks (job_of a.job) first second) → (v ≡ Passed → (q ≡ capacity (job_of a.job) (weight_in first)) × (q' ≡ capacity (job_of a.job) (weight_in second))) → v ≡ Passed
-    → TwoTaken s choices first second a.job q q'
-two_taken s choices first second {a} e p f g h =
-    let j = answered s choices e p in
+pub two_taken : (s : List ℕ) (choices : Choices) (first second : List ℕ) {a : Answer JobRecord} {j : JobRecord} {w : Answer Capacities} {m : Capacities} → a ≡ read_of s choices → a ≡ Ok j
+    → w ≡ weighed_two (job_of j) first second → w ≡ Ok m → TwoTaken s choices first second j m.first m.second
+two_taken s choices first second {j = j} e p f g =
+    let k = answered s choices e p in
+    let w = value_answered _ _ (sym f ∙ g) in
     record {
-      accepted_is = passed_append (job_checks s choices) (two_checks (block_job s choices) first second) j.0 (sym (ap (λ j. first_refusal (two_checks (job_of j) first second)) j.1) ∙ sym f ∙ h);
-      record_is = j.1;
-      first_is = (g h).0;
-      second_is = (g h).1;
+      accepted_is = passed_append (job_checks s choices) (two_checks (block_job s choices) first second) k.0 (ap (λ j. first_refusal (two_checks (job_of j) first second)) (sym k.1) ∙ w.0);
+      record_is = k.1;
+      first_is = ap (λ m. m.first) w.1;
+      second_is = ap (λ m. m.second) w.1;
       range = range_read s choices e p;
-      weighs = both_passed (job_of a.job) first second (sym f ∙ h);
+      weighs = both_passed (job_of j) first second w.0;
     }
 
 -- what the steps ask, and what the bound of the pieces says of the job's block
@@ -153,7 +146,7 @@ module _ (s : List ℕ) (choices : Choices) (first second : List ℕ) {j : JobRe
           record { in_range = pieces_range (job_of j) own count new numbered t.range; most = omega (arith, t.weighs.few, t.first_is); pairs = few_pairs; floors_there = h } in
           subst (λ p. Pairable (pieces_job (rect_of p) count new) q q' floors) (sym e) b
 
-      pub job_paired : {plate : Sides} {m m' : Memory} {r : TwoAnswer} → plate ≡ sides_of (widened (job_of j)).plate
+      pub job_paired : {plate : Sides} {m m' : Memory} {r : Answer TwoReport} → plate ≡ sides_of (widened (job_of j)).plate
           → Paired (pieces_job (rect_of plate) count new) (figure_pair (pieces_job (rect_of plate) count new) q q' (listed_weight new)) q q' m m' r
           → Paired (wide_job s choices) (block_figure s choices first second) (block_capacity s choices first) (block_capacity s choices second) m m' r
       job_paired {plate} {m} {m'} {r} e b =

@@ -1,6 +1,6 @@
 -- What is answered and left in memory for the array of a job's pieces, with the numbers of their states, is the job's own; and the word
 -- from which the bound is read.
-use Rattle.two_bound.proofs.Prelude.{◌≡◌, refl, sym, ◌∙◌, ap, ap₂, subst, Bool, List, [], ◌∷◌, ℕ, ◌+◌, ◌-◌, ◌*◌, ◌≤◌, ◌<◌, arith, ltb, length, get_or, Length, Width, Rect, leaf, saw, kind, sized, Job, laid, members, pieces, normal_side, normal_floor, figure_two, InTableRange, size_in, price_in, listed_weight, plain, Listing, pieces_job, PieceArray, figure_same, floor_figure, members_solid, table_solid, sides_suffice, positions_some, greatest_listed, first_refusal, Checked, Passed, Refused, TableShort, position_count, position, words_needed, Kept, two_words, TwoFigures, below, by_state, figure_at, pair_blocks, figure_pair, pair_state, by_state_monotone, digits_order, pair_blocked, Memory, list_check, list_after, last_position, word_last, words_some, same_positions, same_count, same_position, same_words, TwoAfter, two_storage_checks, two_report, two_answer_by, Paired, TwoAnswer}
+use Rattle.two_bound.proofs.Prelude.{◌≡◌, refl, sym, ◌∙◌, ap, ap₂, subst, Bool, List, [], ◌∷◌, ℕ, ◌+◌, ◌-◌, ◌*◌, ◌≤◌, ◌<◌, arith, ltb, length, get_or, Length, Width, Rect, leaf, saw, kind, sized, Job, laid, members, pieces, normal_side, normal_floor, figure_two, InTableRange, size_in, price_in, listed_weight, plain, Listing, pieces_job, PieceArray, figure_same, floor_figure, members_solid, table_solid, sides_suffice, positions_some, greatest_listed, first_refusal, TableShort, position_count, position, words_needed, Kept, two_words, TwoFigures, below, by_state, figure_at, pair_blocks, figure_pair, pair_state, by_state_monotone, digits_order, pair_blocked, Memory, list_check, list_after, last_position, word_last, words_some, same_positions, same_count, same_position, same_words, TwoAfter, two_storage_checks, two_report, answer_by, Paired, Ok, Err, Checked, Answer, TwoReport}
 use Rattle.states.proofs.Ties.{figure_two as figure_numbered}
 use Rattle.two_bound.proofs.Storage.{report_is}
 
@@ -72,16 +72,16 @@ module _ (J : Job) (first second : ℕ → ℕ) (q q' n : ℕ) (pieces : List �
     lists = first_refusal (list_check J (length old.lengths) (length old.widths) ∷ [])
 
     same_table : (v : Checked) → TwoAfter v N F q q' old.table new.table → TwoAfter v J G q q' old.table new.table
-    same_table Passed t = (same_figures new.table t.0, subst (λ k. Kept k old.table new.table) all_same t.1)
-    same_table (Refused r) t = t
+    same_table (Ok _) t = (same_figures new.table t.0, subst (λ k. Kept k old.table new.table) all_same t.1)
+    same_table (Err r) t = t
 
     same_report : two_report N F q q' ≡ two_report J G q q'
     same_report = report_is (same_figure J.plate.0 J.plate.1 q q' (omega arith) (omega arith)) refl refl (same_count J own n pieces array Length) (same_count J own n pieces array Width)
 
     -- the whole answer is the job's
-    pub pieces_paired : (r : TwoAnswer) → Paired N F q q' old new r → Paired J G q q' old new r
+    pub pieces_paired : (r : Answer TwoReport) → Paired N F q q' old new r → Paired J G q q' old new r
     pieces_paired r b = record {
-      answer = b.answer ∙ ap₂ two_answer_by same_checks same_report;
+      answer = b.answer ∙ ap₂ answer_by same_checks same_report;
       memory = record {
         lengths = b.memory.lengths ∙ ap (λ xs. list_after lists xs old.lengths) (same_positions J own n pieces array Length);
         widths = b.memory.widths ∙ ap (λ xs. list_after lists xs old.widths) (same_positions J own n pieces array Width);

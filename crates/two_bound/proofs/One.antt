@@ -1,13 +1,12 @@
 -- Second weights that are all 0: checks, answer and memory are those of the bound call of the first.
-use Rattle.two_bound.proofs.Prelude.{◌≡◌, refl, sym, ◌∙◌, ap, ap₂, subst, Bool, true, false, not, ◌||◌, List, [], ◌∷◌, ℕ, arith, ltb-false, le-ltb, ltb, eqb, length, get_or, Length, Width, Job, capacity, normal_positions, figure_two, capacity_none, two_one, next, refuse_when, first_refusal, Checked, Passed, Refused, WeightCount, SecondCount, Capacity, CapacityProduct, TableShort, Choices, job_checks, block_job, weight_in, weight_checks, first_append, position, word, words_needed, Figures, Kept, pair_count, two_words, two_word, TwoFigures, BoundReport, Memory, list_check, list_after, TableAfter, wide_job, block_capacity, block_report, accept_verdict, bound_verdict, bound_answer, BoundLeaves, two_checks, two_storage_checks, two_report, two_answer_by, TwoAfter, TwoLeaves, weighed_verdict, two_verdict, block_figure, two_answer, with_second_none, TwoReport}
-use Rattle.bound.specs.Bound as bound
+use Rattle.two_bound.proofs.Prelude.{◌≡◌, refl, sym, ◌∙◌, ap, ap₂, subst, Bool, true, false, not, ◌||◌, List, [], ◌∷◌, ℕ, arith, ltb-false, le-ltb, ltb, eqb, length, get_or, Length, Width, Job, capacity, normal_positions, figure_two, capacity_none, two_one, next, refuse_when, first_refusal, WeightCount, SecondCount, Capacity, CapacityProduct, TableShort, Choices, job_checks, block_job, weight_in, weight_checks, first_append, position, word, words_needed, Figures, Kept, pair_count, two_words, two_word, TwoFigures, BoundReport, Memory, list_check, list_after, TableAfter, wide_job, block_capacity, block_report, accept_verdict, bound_verdict, bound_answer, BoundLeaves, two_checks, two_storage_checks, two_report, answer_by, TwoAfter, TwoLeaves, weighed_verdict, two_verdict, block_figure, two_answer, with_second_none, TwoReport, Ok, Err, passed, Checked}
 use Rattle.two_bound.proofs.Storage.{report_is}
 
 -- the verdict of the checks of two lists, by their conditions
 abbrev verdict_by : Bool → Bool → Bool → Bool → Checked
-verdict_by one two heavy many = next (refuse_when (not one) WeightCount) (next (refuse_when (not two) SecondCount) (next (refuse_when heavy Capacity) (next (refuse_when many CapacityProduct) Passed)))
+verdict_by one two heavy many = next (refuse_when (not one) WeightCount) (next (refuse_when (not two) SecondCount) (next (refuse_when heavy Capacity) (next (refuse_when many CapacityProduct) passed)))
 
-alone : (one heavy many : Bool) → (heavy ≡ false → many ≡ false) → verdict_by one one (heavy || false) many ≡ next (refuse_when (not one) WeightCount) (next (refuse_when heavy Capacity) Passed)
+alone : (one heavy many : Bool) → (heavy ≡ false → many ≡ false) → verdict_by one one (heavy || false) many ≡ next (refuse_when (not one) WeightCount) (next (refuse_when heavy Capacity) passed)
 alone false heavy many f = refl
 alone true true many f = refl
 alone true false many f = ap (λ many. verdict_by true true false many) (f refl)
@@ -16,9 +15,9 @@ alone true false many f = ap (λ many. verdict_by true true false many) (f refl)
 abbrev none_beside : BoundReport → TwoReport
 none_beside b = record { bound = b.bound; first_capacity = b.capacity; second_capacity = 0; length_count = b.length_count; columns = b.columns }
 
-none_by : (v : Checked) (b : BoundReport) → two_answer_by v (none_beside b) ≡ with_second_none (bound.answer_by v b)
-none_by Passed b = refl
-none_by (Refused r) b = refl
+none_by : (v : Checked) (b : BoundReport) → answer_by v (none_beside b) ≡ with_second_none (answer_by v b)
+none_by (Ok _) b = refl
+none_by (Err r) b = refl
 
 module _ (first second : List ℕ) (same : length second ≡ length first) (none : (i : ℕ) → weight_in second i ≡ 0) where
   one_checks : (J : Job) → first_refusal (two_checks J first second) ≡ first_refusal (weight_checks J first)
@@ -38,8 +37,8 @@ module _ (first second : List ℕ) (same : length second ≡ length first) (none
   one_words J q = omega arith
 
   one_table : (v : Checked) (J : Job) (q : ℕ) (old new : List ℕ) → TwoAfter v J (figure_two J (weight_in first) (weight_in second)) q 0 old new → TableAfter v J (weight_in first) q old new
-  one_table Passed J q old new t = (one_figures J q new t.0, subst (λ n. Kept n old new) (one_words J q) t.1)
-  one_table (Refused r) J q old new t = t
+  one_table (Ok _) J q old new t = (one_figures J q new t.0, subst (λ n. Kept n old new) (one_words J q) t.1)
+  one_table (Err r) J q old new t = t
 
   module _ (s : List ℕ) (choices : Choices) (old : Memory) where
     -- the job, its figures and its first capacity
@@ -65,7 +64,7 @@ module _ (first second : List ℕ) (same : length second ≡ length first) (none
 
     -- the answer is the bound call's
     pub one_answer : two_answer s choices first second old ≡ with_second_none (bound_answer s choices first old)
-    one_answer = ap₂ two_answer_by verdict (ap (λ q'. two_report J F q q') second_none ∙ report_is (two_one J (weight_in first) (weight_in second) none J.plate.0 J.plate.1 q) refl refl refl refl)
+    one_answer = ap₂ answer_by verdict (ap (λ q'. two_report J F q q') second_none ∙ report_is (two_one J (weight_in first) (weight_in second) none J.plate.0 J.plate.1 q) refl refl refl refl)
         ∙ none_by (bound_verdict s choices first old) (block_report s choices first)
 
     -- and so is the memory

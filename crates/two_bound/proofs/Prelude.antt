@@ -1,14 +1,13 @@
 -- What the proofs of this crate take from libraries and from other crates, named once.
 pub use Prim.Native.Nat.{◌*◌, ◌+◌, ◌-◌, ◌/◌, ◌<◌, ◌≤◌, ℕ}
-pub use borrow.Author.Rules.{rules, scaled_Fits}
-pub use borrow.Author.Tests.{eq-eqb, eqb-true, le-ltb, lt-ltb, ltb-false, ne_eqb, not-false}
+pub use borrow.Author.Tests.{eqb-true, le-ltb, lt-ltb, ltb-false, not-false}
 pub use lib.Dec.{eqb, ltb}
 pub use lib.ListN.{get_or, length, length-set, set}
 pub use lib.Seq.{get_or-set_other, get_or-set_same}
 pub use mathlib.Core.Bool.{Bool, ◌||◌, false, not, true}
 pub use mathlib.Core.List.{List, [], ◌∷◌}
 pub use mathlib.Core.Path.{◌∙◌, ◌≡◌, ap, ap₂, refl, subst, sym}
-pub use native.Mathlib.Decide.{dec_le, ℕ_discrete}
+pub use native.Mathlib.Decide.{ℕ_discrete}
 pub use native.Mathlib.Nat.{mul-le-mul}
 pub use native.Mathlib.Omega.{arith}
 pub use Rattle.bound.proofs.Last.{last_position, word_last, words_some}
@@ -36,36 +35,34 @@ pub use Rattle.cutting.specs.Tree.{Rect}
 pub use Rattle.cutting.specs.Two.{TwoFiguresMost, two_bound}
 unfoldable pub use Rattle.cutting.specs.Two.{figure_two}
 pub use Rattle.cutting.specs.declared.Sides.{Sides}
-pub use Rattle.job.proofs.Checks.{append_passed, cons_passed, first_append, passed_append, passed_both}
+pub use Rattle.job.proofs.Checks.{append_passed, check_last, check_passes, check_stops, cons_passed, first_append, passed_append, passed_both, passed_false}
 pub use Rattle.job.proofs.Read.{answered, or_false, read_in_range, refused}
-pub use Rattle.job.proofs.Weights.{answer_passed, capacity_answered, weights_passed}
+pub use Rattle.job.proofs.Weights.{weights_passed}
 pub use Rattle.job.specs.Block.{job_checks, job_of, read_of, record_of}
 pub use Rattle.job.specs.Weights.{block_job, weight_checks, weight_in, weights_answer}
 pub use Rattle.promises.specs.declared.BoundReport.{BoundReport}
-pub use Rattle.promises.specs.declared.Checked.{Checked}
-pub use Rattle.promises.specs.declared.Checked.TheVariants.{Passed, Refused}
 pub use Rattle.promises.specs.declared.Choices.{Choices}
 pub use Rattle.promises.specs.declared.Direction.TheVariants.{Length, Width}
-pub use Rattle.promises.specs.declared.JobAnswer.{JobAnswer}
 pub use Rattle.promises.specs.declared.JobRecord.{JobRecord}
 pub use Rattle.promises.specs.declared.Refusal.{Refusal}
 pub use Rattle.promises.specs.declared.Refusal.TheVariants.{Capacity, CapacityProduct, SecondCount, TableShort, WeightCount}
-pub use Rattle.promises.specs.declared.TwoAnswer.{TwoAnswer}
 pub use Rattle.promises.specs.declared.TwoReport.{TwoReport}
-pub use Rattle.refusal.specs.Refusals.{next, outcome_by, refuse_when}
+pub use Rattle.refusal.specs.Refusals.{next, refuse_when}
 unfoldable pub use Rattle.refusal.specs.Refusals.{first_refusal}
 pub use Rattle.states.proofs.Digits.{digits_order}
 pub use Rattle.states.proofs.Ties.{figures_pairs, pair_blocked}
 pub use Rattle.storage.proofs.Filled.{fillable}
 pub use Rattle.storage.proofs.Storage.{last_laid, ready_laid, refused_laid}
 pub use Rattle.storage.specs.Clauses.{LaidOut, cell_words, storage_verdict}
-pub use Rattle.storage.specs.declared.Layout.TheVariants.{Ready}
+pub use Rattle.storage.specs.declared.Layout.{Layout}
 pub use Rattle.table.proofs.Shares.{by_state_monotone}
 pub use Rattle.table.specs.Clauses.{TwoBy, size_job}
 pub use Rattle.table.specs.States.{below, figure_pair, pair_blocks, pair_state}
 unfoldable pub use Rattle.table.specs.States.{by_state, figure_at, own_state}
 pub use Rattle.table.specs.Table.{Figures, Kept, position, position_count, word, words_needed}
 pub use Rattle.table.specs.Two.{TwoFigures, pair_count, two_word, two_words}
-pub use Rattle.table.specs.declared.TableSize.{TableSize}
-pub use Rattle.two_bound.specs.Clauses.{Pairable, Paired, Statable, Stated}
-pub use Rattle.two_bound.specs.Two.{BothAccepted, TwoAfter, TwoHolds, TwoLeaves, TwoPromises, block_figure, two_answer, two_answer_by, two_block_report, two_checks, two_outcome, two_report, two_storage_checks, two_values, two_verdict, weighed_verdict, with_second_none}
+pub use Rattle.two_bound.specs.Clauses.{weighed_two, Pairable, Paired, Statable, Stated}
+pub use Rattle.two_bound.specs.Two.{BothAccepted, TwoAfter, TwoHolds, TwoLeaves, TwoPromises, block_figure, two_answer, two_block_report, two_checks, two_outcome, two_report, two_storage_checks, two_values, two_verdict, weighed_verdict, with_second_none}
+pub use Rattle.std.proofs.Common.{Ok, Err}
+pub use Rattle.promises.specs.Refusals.{Checked, Answer, answer_by, passed}
+pub use Rattle.two_bound.specs.declared.Capacities.{Capacities}

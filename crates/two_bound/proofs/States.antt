@@ -1,28 +1,12 @@
 -- The numbers of states in the array of pieces: one more, and what the array then lists.
-use Rattle.two_bound.proofs.Prelude.{◌≡◌, refl, sym, ◌∙◌, ap, ap₂, true, false, List, ℕ, ◌+◌, ◌*◌, ◌/◌, ◌≤◌, ◌<◌, mul-le-mul, ℕ_discrete, arith, lt-ltb, le-ltb, length, set, length-set, get_or-set_same, get_or-set_other, Piece, upright, turned, kind, Job, members, listed_weight, node_in, node_number, member_at, PieceArray, member_kind, get_or_mem, pair_count, own_state, pair_state, Statable, Stated}
+use Rattle.two_bound.proofs.Prelude.{◌≡◌, refl, ◌∙◌, ap, ap₂, List, ℕ, ◌+◌, ◌*◌, ◌/◌, ◌≤◌, ◌<◌, ℕ_discrete, arith, length, set, length-set, get_or-set_same, get_or-set_other, Piece, upright, turned, kind, Job, members, listed_weight, node_in, node_number, member_at, PieceArray, member_kind, get_or_mem, pair_count, own_state, pair_state, Statable, Stated}
 
 -- the state of two weights is that of a kind which has them
 pub state_same : (first second : ℕ → ℕ) (q q' k : ℕ) → pair_state q q' (λ i. first k) (λ i. second k) 0 ≡ pair_state q q' first second k
 unfolding own_state
 state_same first second q q' k = refl
 
--- a weight times the number of second shares is below 2 to the 24th
-pub weight_small : (a s : ℕ) → a ≤ 255 → s ≤ 65535 → a * (s + 1) ≤ 16711680
-weight_small a s h l = let k : s + 1 ≤ 65536 = omega arith in mul-le-mul h k
-
--- as the code finds it: by whether the second weight is within its capacity
-pub state_open : (q q' a b : ℕ) → b < q' + 1 → a * (q' + 1) + b ≡ pair_state q q' (λ i. a) (λ i. b) 0
-unfolding own_state
-state_open q q' a b h = sym (ap (λ t. elim t [ true ↦ a * (q' + 1) + b | false ↦ (q + 1) * (q' + 1) ]) (lt-ltb b (q' + 1) h))
-
-pub state_past : (q q' a b : ℕ) → q' + 1 ≤ b → (q + 1) * (q' + 1) ≡ pair_state q q' (λ i. a) (λ i. b) 0
-unfolding own_state
-state_past q q' a b h = sym (ap (λ t. elim t [ true ↦ a * (q' + 1) + b | false ↦ (q + 1) * (q' + 1) ]) (le-ltb b (q' + 1) h))
-
 module _ (first second : ℕ → ℕ) (q q' : ℕ) (old : List ℕ) where
-  pub stated_none : Stated 0 first second q q' old old
-  stated_none = record { entries = refl; states = λ j h. absurd (omega arith); others = λ k h. refl }
-
   -- one piece more
   pub stated_more : (i v : ℕ) {now : List ℕ} → Stated i first second q q' old now → 5 * i + 3 < length now → v ≡ pair_state q q' first second (node_in now i / 2) → Stated (i + 1) first second q q' old (set now (5 * i + 3) v)
   stated_more i v {now} s room e = record {
@@ -34,10 +18,6 @@ module _ (first second : ℕ → ℕ) (q q' : ℕ) (old : List ℕ) where
       go : (j : ℕ) → j < i + 1 → Dec (j ≡ i) → listed_weight (set now (5 * i + 3) v) j ≡ pair_state q q' first second (node_in old j / 2)
       go j h (yes d) = rw d (get_or-set_same now (5 * i + 3) v 0 room ∙ e ∙ ap (λ n. pair_state q q' first second (n / 2)) (s.others (5 * i + 4) (λ j g. omega arith)))
       go j h (no d) = get_or-set_other now (5 * i + 3) (5 * j + 3) v 0 (λ g. omega arith) ∙ s.states j (omega arith)
-
--- the next piece's kind has a weight in both lists
-pub stated_kind : {old now first second : List ℕ} {f g : ℕ → ℕ} {n q q' k : ℕ} → Statable old n first second q q' → Stated k f g q q' old now → (i : ℕ) → i < n → (node_in now i / 2 < length first) × (node_in now i / 2 < length second)
-stated_kind given s i h = let e = s.others (5 * i + 4) (λ j g. omega arith) in rw e (given.kinds i h)
 
 -- the kind of a node's number
 half_node : (p : Piece) → node_number p / 2 ≡ kind p

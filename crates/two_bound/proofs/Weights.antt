@@ -1,56 +1,80 @@
 -- What the checks of two lists of weights decide: 8, 24, 9, 25, or none.
-use Rattle.two_bound.proofs.Prelude.{◌≡◌, ◌∙◌, List, ℕ, ◌≤◌, ◌<◌, dec_le, arith, ltb-false, lt-ltb, le-ltb, eqb-true, eq-eqb, ne_eqb, not-false, ltb, eqb, length, Job, capacity, first_refusal, Checked, Passed, Refused, Refusal, weight_in, weights_answer, cons_passed, answer_passed, capacity_answered, weights_passed, pair_count, or_false, two_checks}
+use Rattle.two_bound.proofs.Prelude.{◌≡◌, refl, sym, ◌∙◌, ap, ap₂, Bool, true, false, not, ◌||◌, List, [], ◌∷◌, ℕ, ◌≤◌, ltb-false, eqb-true, not-false, ltb, eqb, length, Job, capacity, first_refusal, refuse_when, Refusal, weight_in, weights_answer, check_last, check_passes, check_stops, passed_false, cons_passed, weights_passed, pair_count, or_false, two_checks, Ok, Err, passed, Checked, Answer}
 use Rattle.promises.specs.declared.Refusal.TheVariants as refusal
-use Rattle.job.specs.declared.WeightsAnswer.TheVariants as answer
+use Rattle.promises.specs.Refusals.{verdict_of}
+use Rattle.refusal.proofs.Results.{verdict_is, value_answered}
 
--- weights of a job, as many as its kinds, that are refused: the capacity is too large
-pub too_heavy : (J : Job) (ws : List ℕ) {x : Refusal} → length ws ≡ J.count → weights_answer J ws ≡ answer.Refused x → 4095 < capacity J (weight_in ws)
-too_heavy J ws {x} h e = go (dec_le (capacity J (weight_in ws)) 4095)
-  where
-    go : Dec (capacity J (weight_in ws) ≤ 4095) → 4095 < capacity J (weight_in ws)
-    go (yes l) = absurd (let z : answer.Capacity (capacity J (weight_in ws)) ≡ answer.Refused x = answer_passed J ws h (omega arith) l ∙ e in let y : ◌≡◌ {A = ℕ} 0 1 = cc in omega arith)
-    go (no l) = omega arith
+-- weights as many as the kinds: the check of their capacity decides, and one that refuses refuses with another
+heavy : (J : Job) (ws : List ℕ) (r : Refusal) {a : Checked} {w : Answer ℕ} {v : Checked} → a ≡ refuse_when (not (eqb (length ws) J.count)) r → a ≡ passed → w ≡ weights_answer J ws → verdict_of w ≡ v
+    → refuse_when (ltb 4095 (capacity J (weight_in ws))) refusal.Capacity ≡ v
+heavy J ws r e p f g =
+    let k = passed_false _ r (sym e ∙ p) in
+    check_last _ _ refl ∙ check_passes _ _ _ refl (ap (λ t. refuse_when t refusal.WeightCount) k) ∙ sym (verdict_is _ (capacity J (weight_in ws))) ∙ ap verdict_of (sym f) ∙ g
 
--- and those that have a capacity
-pub light : (J : Job) (ws : List ℕ) {q : ℕ} → weights_answer J ws ≡ answer.Capacity q → (q ≡ capacity J (weight_in ws)) × (capacity J (weight_in ws) ≤ 4095)
-light J ws {q} e = let a = capacity_answered J ws q e in (a.1, (weights_passed J ws a.0).1)
+either_heavy : (a b : Bool) (r : Refusal) {x : Refusal} → refuse_when a r ≡ Err x → refuse_when (a || b) r ≡ Err x
+either_heavy true b r e = e
+either_heavy false b r e = cc
 
--- a refusal is no pass
-pub no_pass : {A : Type 0} {v : Checked} {x : Refusal} → v ≡ Refused x → v ≡ Passed → A
-no_pass e p = absurd (let z : ◌≡◌ {A = ℕ} 0 1 = cc in omega arith)
-
--- a refusal is the checks', and no pass
-pub unweighed_said : {A : Type 0} {v u : Checked} {x : Refusal} → v ≡ Refused x → Refused x ≡ u → (v ≡ u) × (v ≡ Passed → A)
-unweighed_said e f = (e ∙ f, no_pass e)
+other_heavy : (a b : Bool) (r : Refusal) → refuse_when a r ≡ passed → refuse_when (a || b) r ≡ refuse_when b r
+other_heavy true b r e = cc
+other_heavy false b r e = refl
 
 module _ (J : Job) (first second : List ℕ) where
-  pub first_count : (length first ≡ J.count → ⊥) → Refused refusal.WeightCount ≡ first_refusal (two_checks J first second)
-  unfolding first_refusal
-  first_count h = simp (ne_eqb (length first) J.count h)
+  -- the verdict of both lists
+  abbrev verdict : Checked
+  verdict = first_refusal (two_checks J first second)
 
-  module _ (one : length first ≡ J.count) where
-    pub second_count : (length second ≡ J.count → ⊥) → Refused refusal.SecondCount ≡ first_refusal (two_checks J first second)
-    unfolding first_refusal
-    second_count h = simp (eq-eqb (length first) J.count one, ne_eqb (length second) J.count h)
+  -- whether either capacity is above the most, and whether there are too many pairs
+  abbrev above : Bool
+  above = ltb 4095 (capacity J (weight_in first)) || ltb 4095 (capacity J (weight_in second))
 
-    module _ (two : length second ≡ J.count) where
-      pub first_heavy : 4095 < capacity J (weight_in first) → Refused refusal.Capacity ≡ first_refusal (two_checks J first second)
-      unfolding first_refusal
-      first_heavy h = simp (eq-eqb (length first) J.count one, eq-eqb (length second) J.count two, lt-ltb 4095 (capacity J (weight_in first)) h)
+  abbrev many : Bool
+  many = ltb 65536 (pair_count (capacity J (weight_in first)) (capacity J (weight_in second)))
 
-      module _ (few : capacity J (weight_in first) ≤ 4095) where
-        pub second_heavy : 4095 < capacity J (weight_in second) → Refused refusal.Capacity ≡ first_refusal (two_checks J first second)
-        unfolding first_refusal
-        second_heavy h = simp (eq-eqb (length first) J.count one, eq-eqb (length second) J.count two, le-ltb 4095 (capacity J (weight_in first)) few, lt-ltb 4095 (capacity J (weight_in second)) h)
+  -- 8 decides
+  pub first_refused : {a : Checked} {x : Refusal} → a ≡ refuse_when (not (eqb (length first) J.count)) refusal.WeightCount → a ≡ Err x → verdict ≡ Err x
+  first_refused e p = sym (check_stops _ _ _ e p) ∙ p
 
-        module _ (few' : capacity J (weight_in second) ≤ 4095) where
-          pub product_heavy : 65536 < pair_count (capacity J (weight_in first)) (capacity J (weight_in second)) → Refused refusal.CapacityProduct ≡ first_refusal (two_checks J first second)
-          unfolding first_refusal
-          product_heavy h = simp (eq-eqb (length first) J.count one, eq-eqb (length second) J.count two, le-ltb 4095 (capacity J (weight_in first)) few, le-ltb 4095 (capacity J (weight_in second)) few', lt-ltb 65536 (pair_count (capacity J (weight_in first)) (capacity J (weight_in second))) h)
+  module _ {a : Checked} (a_is : a ≡ refuse_when (not (eqb (length first) J.count)) refusal.WeightCount) (a_passed : a ≡ passed) where
+    -- 24 decides
+    pub second_refused : {b : Checked} {x : Refusal} → b ≡ refuse_when (not (eqb (length second) J.count)) refusal.SecondCount → b ≡ Err x → verdict ≡ Err x
+    second_refused e p = sym (check_passes _ _ _ a_is a_passed) ∙ sym (check_stops _ _ _ e p) ∙ p
 
-          pub both_light : pair_count (capacity J (weight_in first)) (capacity J (weight_in second)) ≤ 65536 → Passed ≡ first_refusal (two_checks J first second)
-          unfolding first_refusal
-          both_light h = simp (eq-eqb (length first) J.count one, eq-eqb (length second) J.count two, le-ltb 4095 (capacity J (weight_in first)) few, le-ltb 4095 (capacity J (weight_in second)) few', le-ltb 65536 (pair_count (capacity J (weight_in first)) (capacity J (weight_in second))) h)
+    module _ {b : Checked} (b_is : b ≡ refuse_when (not (eqb (length second) J.count)) refusal.SecondCount) (b_passed : b ≡ passed) where
+      -- the checks of the capacities decide
+      capacities : first_refusal ((above, refusal.Capacity) ∷ (many, refusal.CapacityProduct) ∷ []) ≡ verdict
+      capacities = check_passes _ _ _ b_is b_passed ∙ check_passes _ _ _ a_is a_passed
+
+      module _ {w : Answer ℕ} (w_is : w ≡ weights_answer J first) where
+        -- 9 of the first decides
+        pub first_heavy : {x : Refusal} → w ≡ Err x → verdict ≡ Err x
+        first_heavy p =
+            let h = either_heavy _ (ltb 4095 (capacity J (weight_in second))) _ (heavy J first refusal.WeightCount a_is a_passed w_is (ap verdict_of p)) in
+            sym capacities ∙ sym (check_stops _ _ _ refl h) ∙ h
+
+        module _ {q : ℕ} (w_given : w ≡ Ok q) {u : Answer ℕ} (u_is : u ≡ weights_answer J second) where
+          -- the check of the second decides about both
+          second_capacity : refuse_when above refusal.Capacity ≡ verdict_of u
+          second_capacity = other_heavy _ _ _ (heavy J first refusal.WeightCount a_is a_passed w_is (ap verdict_of w_given)) ∙ heavy J second refusal.SecondCount b_is b_passed u_is refl
+
+          -- 9 of the second decides
+          pub second_heavy : {x : Refusal} → u ≡ Err x → verdict ≡ Err x
+          second_heavy p = let h = second_capacity ∙ ap verdict_of p in sym capacities ∙ sym (check_stops _ _ _ refl h) ∙ h
+
+          module _ {s : ℕ} (u_given : u ≡ Ok s) where
+            -- both capacities
+            pub both_weighed : ((q ≡ capacity J (weight_in first)) × (s ≡ capacity J (weight_in second))) × ((q ≤ 4095) × (s ≤ 4095))
+            both_weighed =
+                let k = value_answered _ _ (sym w_is ∙ w_given) in
+                let l = value_answered _ _ (sym u_is ∙ u_given) in
+                ((k.1, l.1), (rw k.1 (weights_passed J first k.0).1, rw l.1 (weights_passed J second l.0).1))
+
+            -- 25 decides
+            pub product_decides : {c : Checked} → c ≡ refuse_when (ltb 65536 (pair_count q s)) refusal.CapacityProduct → verdict ≡ c
+            product_decides e =
+                let k = both_weighed.0 in
+                sym capacities ∙ sym (check_passes _ _ _ refl (second_capacity ∙ ap verdict_of u_given))
+                ∙ sym (check_last _ _ (e ∙ ap₂ (λ q s. refuse_when (ltb 65536 (pair_count q s)) refusal.CapacityProduct) k.0 k.1))
 
 -- weights that passed: as many as kinds, and capacities of at most 4,095 and not too many pairs
 pub record Weighs (J : Job) (first second : List ℕ) : Type 0 where
@@ -59,7 +83,7 @@ pub record Weighs (J : Job) (first second : List ℕ) : Type 0 where
   pub few : capacity J (weight_in first) ≤ 4095
   pub pairs : pair_count (capacity J (weight_in first)) (capacity J (weight_in second)) ≤ 65536
 
-pub both_passed : (J : Job) (first second : List ℕ) → first_refusal (two_checks J first second) ≡ Passed → Weighs J first second
+pub both_passed : (J : Job) (first second : List ℕ) → first_refusal (two_checks J first second) ≡ passed → Weighs J first second
 both_passed J first second p =
     let a = cons_passed _ _ _ p in
     let b = cons_passed _ _ _ a.1 in

@@ -2,15 +2,20 @@
 -- capacities asks and leaves.
 use Rattle.std.specs.Prelude.{◌≡◌, List, ℕ, ◌+◌, ◌*◌, ◌/◌, ◌≤◌, ◌<◌, length, get_or}
 use Rattle.cutting.specs.Limits.{most_capacity, most_pairs, most_pieces}
-use Rattle.cutting.specs.Job.{Job}
+use Rattle.cutting.specs.Job.{Job, capacity}
 use Rattle.cutting.specs.Listed.{InTableRange, listed_weight, node_in}
-use Rattle.refusal.specs.Refusals.{first_refusal}
-use Rattle.promises.specs.declared.Checked.TheVariants.{Passed}
+use Rattle.refusal.specs.Refusals.{Answer, passed, first_refusal, answer_by}
+use Rattle.job.specs.Weights.{weight_in}
 use Rattle.table.specs.Two.{pair_count}
 use Rattle.table.specs.States.{pair_state}
 use Rattle.bound.specs.Bound.{Memory}
-use Rattle.promises.specs.declared.TwoAnswer.{TwoAnswer}
-use Rattle.two_bound.specs.Two.{TwoLeaves, two_storage_checks, two_answer_by, two_report}
+use Rattle.two_bound.specs.Two.{TwoLeaves, two_storage_checks, two_checks, two_report}
+use Rattle.promises.specs.declared.TwoReport.{TwoReport}
+use Rattle.two_bound.specs.declared.Capacities.{Capacities}
+
+-- what two lists of weights answer: the capacities, or the first refusal
+abbrev pub weighed_two : Job → List ℕ → List ℕ → Answer Capacities
+weighed_two J first second = answer_by (first_refusal (two_checks J first second)) (record { first = capacity J (weight_in first); second = capacity J (weight_in second) })
 
 -- an array of n pieces whose kinds have a weight in both lists, and capacities of not too many pairs
 pub record Statable (pieces : List ℕ) (n : ℕ) (first second : List ℕ) (q q' : ℕ) : Type 0 where
@@ -33,6 +38,6 @@ pub record Pairable (J : Job) (q q' : ℕ) (floors : List ℕ) : Type 0 where
   pub floors_there : length floors ≡ 2042
 
 -- the answer of a job with the figures F and of capacities that were accepted, and what it leaves in lent memory
-pub record Paired (J : Job) (F : ℕ → ℕ → ℕ → ℕ → ℕ) (q q' : ℕ) (old new : Memory) (r : TwoAnswer) : Type 0 where
-  pub answer : r ≡ two_answer_by (first_refusal (two_storage_checks J q q' old)) (two_report J F q q')
-  pub memory : TwoLeaves Passed J F q q' old new
+pub record Paired (J : Job) (F : ℕ → ℕ → ℕ → ℕ → ℕ) (q q' : ℕ) (old new : Memory) (r : Answer TwoReport) : Type 0 where
+  pub answer : r ≡ answer_by (first_refusal (two_storage_checks J q q' old)) (two_report J F q q')
+  pub memory : TwoLeaves passed J F q q' old new

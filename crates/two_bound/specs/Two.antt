@@ -1,28 +1,23 @@
 -- The bound call of two weights a kind: its checks in the table's order, its answer with number and values, what it leaves in lists and
 -- table, and what the answered bound is. Where it says what the bound call says, it cites that call's definitions.
 -- docs/SCOPE.md: Two weights a kind.
-use Rattle.std.specs.Prelude.{◌≡◌, List, [], ◌∷◌, ◌++◌, ℕ, ◌≤◌, length}
+use Rattle.std.specs.Prelude.{◌≡◌, List, [], ◌∷◌, ◌++◌, ℕ, ◌≤◌, length, Ok, Err}
 use Rattle.promises.specs.declared.Direction.TheVariants.{Length, Width}
 use Rattle.cutting.specs.Limits.{most_figure}
 use Rattle.cutting.specs.Job.{Job, capacity, at_full_demand, normal_positions}
 use Rattle.cutting.specs.Promises.{NoneAbove, NoneFiner, FinerAmong, NormalSums}
 use Rattle.cutting.specs.Two.{figure_two, two_under, two_bound, OfWeights, MostTwo, TwoFiguresMost, TwoRecursion, TwoFloors}
-use Rattle.refusal.specs.Refusals.{Check, Outcome, next, first_refusal, by_check, outcome_by}
-use Rattle.promises.specs.declared.Checked.{Checked}
-use Rattle.promises.specs.declared.Checked.TheVariants.{Passed}
+use Rattle.refusal.specs.Refusals.{Answer, Check, Checked, Outcome, passed, next, first_refusal, by_check, answer_by, outcome_by, outcome_of}
 use Rattle.promises.specs.declared.Choices.{Choices}
 use Rattle.job.specs.Block.{job_checks}
 use Rattle.job.specs.Weights.{block_job, weight_in}
 use Rattle.table.specs.Table.{position_count, Kept}
 use Rattle.table.specs.Two.{two_words, TwoFigures}
-use Rattle.promises.specs.declared.BoundAnswer.{BoundAnswer}
-use Rattle.promises.specs.declared.BoundAnswer.TheVariants as bound
 use Rattle.bound.specs.Bound.{Memory, list_check, room_check, list_after, wide_job, block_capacity, bound_answer, BoundLeaves}
 use Rattle.promises.specs.declared.TwoReport.{TwoReport}
-use Rattle.promises.specs.declared.TwoAnswer.{TwoAnswer}
-use Rattle.promises.specs.declared.TwoAnswer.TheVariants as answer
 pub use Rattle.promises.specs.Block.{two_checks}
-pub use Rattle.promises.specs.Calls.{two_values, two_outcome}
+pub use Rattle.promises.specs.Calls.{two_values}
+use Rattle.promises.specs.declared.BoundReport.{BoundReport}
 
 -- In the definitions up to `TwoLeaves`, J is the job with the kerf added to every side, and F gives its figures.
 -- check 20: a table shorter than p · r · (Q + 1) · (Q' + 1), with the words needed
@@ -43,10 +38,6 @@ two_report J F q q' = record {
   columns = position_count J Width;
 }
 
--- the report, or the refusal
-abbrev pub two_answer_by : Checked → TwoReport → TwoAnswer
-two_answer_by v b = by_check v (answer.Answered b) answer.Refused
-
 -- the table after the call: the figures of every pair of shares, and later words as they were; on a refusal all as it was
 abbrev pub TwoAfter : Checked → Job → (ℕ → ℕ → ℕ → ℕ → ℕ) → ℕ → ℕ → List ℕ → List ℕ → Type 0
 TwoAfter v J F q q' old new = by_check v (TwoFigures J F q q' new × Kept (two_words J q q') old new) (λ r. new ≡ old)
@@ -63,7 +54,7 @@ weighed_verdict s choices first second = first_refusal (job_checks s choices ++ 
 
 -- a job block and two weights a kind that none of them refuses
 abbrev pub BothAccepted : List ℕ → Choices → List ℕ → List ℕ → Type 0
-BothAccepted s choices first second = weighed_verdict s choices first second ≡ Passed
+BothAccepted s choices first second = weighed_verdict s choices first second ≡ passed
 
 -- the verdict of the call: those, 19, 20
 abbrev pub two_verdict : List ℕ → Choices → List ℕ → List ℕ → Memory → Checked
@@ -79,10 +70,14 @@ abbrev pub two_block_report : List ℕ → Choices → List ℕ → List ℕ →
 two_block_report s choices first second = two_report (wide_job s choices) (block_figure s choices first second) (block_capacity s choices first) (block_capacity s choices second)
 
 -- what it answers
-abbrev pub two_answer : List ℕ → Choices → List ℕ → List ℕ → Memory → TwoAnswer
-two_answer s choices first second m = two_answer_by (two_verdict s choices first second m) (two_block_report s choices first second)
+abbrev pub two_answer : List ℕ → Choices → List ℕ → List ℕ → Memory → Answer TwoReport
+two_answer s choices first second m = answer_by (two_verdict s choices first second m) (two_block_report s choices first second)
 
--- the number and values that the call answers
+-- an answer's number and values: the bound, both capacities, p and r
+abbrev pub two_outcome : Answer TwoReport → Outcome
+two_outcome r = outcome_of two_values r
+
+-- those that the call answers
 abbrev pub two_said : List ℕ → Choices → List ℕ → List ℕ → Memory → Outcome
 two_said s choices first second m = outcome_by (two_verdict s choices first second m) (two_values (two_block_report s choices first second))
 
@@ -101,13 +96,13 @@ pub record TwoHolds (J : Job) (first second : ℕ → ℕ) (q q' n : ℕ) : Type
   pub full_demand : n ≤ two_bound (at_full_demand J) first second
 
 -- the bound call's answer with a second capacity of 0
-abbrev pub with_second_none : BoundAnswer → TwoAnswer
-with_second_none (bound.Answered b) =
-    answer.Answered (record { bound = b.bound; first_capacity = b.capacity; second_capacity = 0; length_count = b.length_count; columns = b.columns })
-with_second_none (bound.Refused r) = answer.Refused r
+abbrev pub with_second_none : Answer BoundReport → Answer TwoReport
+with_second_none (Ok b) =
+    Ok (record { bound = b.bound; first_capacity = b.capacity; second_capacity = 0; length_count = b.length_count; columns = b.columns })
+with_second_none (Err r) = Err r
 
 -- where the second weights are as many as the first and all 0, answer and memory are those of the bound call of the first
-abbrev pub OneAlone : List ℕ → Choices → List ℕ → List ℕ → Memory → Memory → TwoAnswer → Type 0
+abbrev pub OneAlone : List ℕ → Choices → List ℕ → List ℕ → Memory → Memory → Answer TwoReport → Type 0
 OneAlone s choices first second old new r = length second ≡ length first → ((i : ℕ) → weight_in second i ≡ 0)
     → (r ≡ with_second_none (bound_answer s choices first old)) × BoundLeaves s choices first old new
 
@@ -115,11 +110,11 @@ OneAlone s choices first second old new r = length second ≡ length first → (
 -- holds; with the kerf added to every side the figures follow the recursion and the normal positions are the sums. Where job and weights
 -- are accepted, whatever storage is lent: their bound holds, every figure is the most that a tree within both shares earns there, and a
 -- tabled figure is that of every rectangle whose largest normal sides it has. Second weights of 0 change nothing
-pub record TwoPromises (s : List ℕ) (choices : Choices) (first second : List ℕ) (old new : Memory) (r : TwoAnswer) : Type 0 where
+pub record TwoPromises (s : List ℕ) (choices : Choices) (first second : List ℕ) (old new : Memory) (r : Answer TwoReport) : Type 0 where
   pub answers : r ≡ two_answer s choices first second old
   pub outcome : two_outcome r ≡ two_said s choices first second old
   pub memory : TwoLeaves (weighed_verdict s choices first second) (wide_job s choices) (block_figure s choices first second) (block_capacity s choices first) (block_capacity s choices second) old new
-  pub exact : (b : TwoReport) → r ≡ answer.Answered b → TwoHolds (block_job s choices) (weight_in first) (weight_in second) b.first_capacity b.second_capacity b.bound
+  pub exact : (b : TwoReport) → r ≡ Ok b → TwoHolds (block_job s choices) (weight_in first) (weight_in second) b.first_capacity b.second_capacity b.bound
   pub recursion : TwoRecursion (wide_job s choices) (weight_in first) (weight_in second)
   pub normal : NormalSums (wide_job s choices)
   pub accepted : BothAccepted s choices first second → TwoHolds (block_job s choices) (weight_in first) (weight_in second) (block_capacity s choices first) (block_capacity s choices second) (two_bound (block_job s choices) (weight_in first) (weight_in second))

@@ -4,25 +4,24 @@
 
 ghost use Rattle.std.specs.Prelude.{◌≡◌, ◌≤◌};
 ghost use Rattle.cutting.specs.Limits.{most_pairs};
-ghost use Rattle.cutting.specs.Job.{InRange, capacity};
+ghost use Rattle.cutting.specs.Job.{InRange};
 ghost use Rattle.cutting.specs.Sides.{rect_of};
 ghost use Rattle.cutting.specs.Listed.{listed_weight, pieces_job};
-ghost use Rattle.refusal.specs.Refusals.{first_refusal};
-ghost use Rattle.promises.specs.declared.Checked.TheVariants.{Passed, Refused};
 ghost use Rattle.job.specs.Block.{job_of, with_full_demand};
 ghost use Rattle.job.specs.Weights.{weight_in};
 ghost use Rattle.table.specs.Two.{pair_count};
 ghost use Rattle.table.specs.States.{figure_pair, pair_state};
 ghost use Rattle.table.specs.Clauses.{size_job, TwoFillable, TwoBy};
 ghost use Rattle.bound.specs.Bound.{lent};
-ghost use Rattle.two_bound.specs.Two.{two_checks, TwoPromises};
-ghost use Rattle.two_bound.specs.Clauses.{Statable, Stated, Pairable, Paired};
+ghost use Rattle.two_bound.specs.Two.{TwoPromises};
+ghost use Rattle.two_bound.specs.Clauses.{weighed_two, Statable, Stated, Pairable, Paired};
 
 use bound::fill_table;
 use cutting::Sides;
-use job::{WeightsAnswer, check_weights};
+use job::check_weights;
 use pieces::{list_pieces, plate_of};
-use promises::{Checked, Choices, JobRecord, Refusal, TwoAnswer, TwoReport};
+use promises::{Choices, JobRecord, Refusal, TwoReport};
+use refusal::refuse_if;
 use state_fill::fill_two;
 use storage::{Layout, lay_out};
 use table::TableSize;
@@ -34,66 +33,38 @@ struct Capacities {
     second: u16,
 }
 
-// What two lists of weights answer: both capacities; where they are refused, 0.
-#[derive(Clone, Copy, Drop)]
-struct Weighed {
-    verdict: Checked,
-    first: u16,
-    second: u16,
-}
-
-// A refusal of the weights.
-fn unweighed(r: Refusal) -> Weighed
-    ensures { result.verdict ≡ Refused r }
-{
-    Weighed {
-        verdict: Checked::Refused(r),
-        first: 0,
-        second: 0,
-    }
-}
-
-// Refusals 8, 24, 9 and 25, and the capacities.
-fn weigh_two(job: JobRecord, first: &[u8], second: &[u8]) -> Weighed
+// The capacities of two lists of weights, or refusal 8, 24, 9 or 25.
+fn weigh_two(job: JobRecord, first: &[u8], second: &[u8]) -> Result<Capacities, Refusal>
     requires { InRange (job_of job) }
-    ensures verdict { result.verdict ≡ first_refusal (two_checks (job_of job) first.now second.now) }
-    ensures capacities { result.verdict ≡ Passed → (result.first ≡ capacity (job_of job) (weight_in first.now)) × (result.second ≡ capacity (job_of job) (weight_in second.now)) }
+    ensures { result ≡ weighed_two (job_of job) first.now second.now }
 {
     let count = job.count as usize;
-    if first.len() != count {
-        return unweighed(Refusal::WeightCount);
-    }
-    if second.len() != count {
-        return unweighed(Refusal::SecondCount);
-    }
-    let one = check_weights(job, first);
-    let WeightsAnswer::Capacity(q) = one else {
-        return unweighed(Refusal::Capacity);
-    };
-    let other = check_weights(job, second);
-    let WeightsAnswer::Capacity(s) = other else {
-        return unweighed(Refusal::Capacity);
-    };
-    if 65536 < ((q as u32) + 1) * ((s as u32) + 1) {
-        return unweighed(Refusal::CapacityProduct);
-    }
-    Weighed {
-        verdict: Checked::Passed,
+    refuse_if(first.len() != count, Refusal::WeightCount)?;
+    refuse_if(second.len() != count, Refusal::SecondCount)?;
+    let q = check_weights(job, first)?;
+    let s = check_weights(job, second)?;
+    refuse_if(
+        65536 < ((q as u32) + 1) * ((s as u32) + 1),
+        Refusal::CapacityProduct,
+    )?;
+    Ok(Capacities {
         first: q,
         second: s,
-    }
+    })
 }
 
 // The number of the state of a piece with two weights: one past all pairs where the second is above its capacity.
+#[tactic(auto, unfolding(table::specs::States::own_state))]
 fn state_of(first: u8, second: u8, q: u16, s: u16) -> u32
     requires { pair_count q s ≤ most_pairs }
     ensures { result ≡ pair_state q s (λ i. first) (λ i. second) 0 }
 {
     let fast = (s as u32) + 1;
     if (second as u32) < fast {
-        return (first as u32) * fast + (second as u32);
+        (first as u32) * fast + (second as u32)
+    } else {
+        ((q as u32) + 1) * fast
     }
-    ((q as u32) + 1) * fast
 }
 
 // Each piece gets the number of its state for its weight.
@@ -147,7 +118,7 @@ fn two_of_pieces(
     widths: &mut [u16],
     floors: &mut [u16],
     table: &mut [u64],
-) -> TwoAnswer
+) -> Result<TwoReport, Refusal>
     requires { Pairable (pieces_job (rect_of plate) count pieces.now) most.first most.second floors.old }
     ensures { Paired (pieces_job (rect_of plate) count pieces.now) (figure_pair (pieces_job (rect_of plate) count pieces.now) most.first most.second (listed_weight pieces.now)) most.first most.second
         (lent lengths.old widths.old table.old)
@@ -157,29 +128,25 @@ fn two_of_pieces(
     let s = most.second;
     let cell = ((q as u32) + 1) * ((s as u32) + 1);
     let room = table.len();
-    let layout = lay_out(plate, count, pieces, q, cell, lengths, widths, floors, room);
-    match layout {
-        Layout::Refused(r) => TwoAnswer::Refused(r),
-        Layout::Ready(size, words) => {
-            fill_pairs(
-                size,
-                s,
-                pieces,
-                &lengths[..],
-                &widths[..],
-                &floors[..],
-                table,
-            );
-            let bound = table[words - 1];
-            TwoAnswer::Answered(TwoReport {
-                bound: bound,
-                first_capacity: most.first,
-                second_capacity: most.second,
-                length_count: size.rows,
-                columns: size.columns,
-            })
-        }
-    }
+    let Layout { size, words } = lay_out(
+        plate, count, pieces, q, cell, lengths, widths, floors, room,
+    )?;
+    fill_pairs(
+        size,
+        s,
+        pieces,
+        &lengths[..],
+        &widths[..],
+        &floors[..],
+        table,
+    );
+    Ok(TwoReport {
+        bound: table[words - 1],
+        first_capacity: q,
+        second_capacity: s,
+        length_count: size.rows,
+        columns: size.columns,
+    })
 }
 
 // The bound of a job block and two weights a kind. An answered bound is exact: the most that a guillotine tree within both answered
@@ -192,32 +159,18 @@ pub fn bound_two(
     lengths: &mut [u16],
     widths: &mut [u16],
     table: &mut [u64],
-) -> TwoAnswer
+) -> Result<TwoReport, Refusal>
     ensures { TwoPromises block.now choices first.now second.now (lent lengths.old widths.old table.old)
         (lent lengths.new widths.new table.new) result }
 {
-    let read = job::read_job(block, choices);
-    let verdict = read.verdict;
-    if let Checked::Refused(r) = verdict {
-        return TwoAnswer::Refused(r);
-    }
-    let record = read.job;
-    let weighed = weigh_two(record, first, second);
-    let weights = weighed.verdict;
-    if let Checked::Refused(r) = weights {
-        return TwoAnswer::Refused(r);
-    }
-    let plate = plate_of(record);
+    let job = job::read_job(block, choices)?;
+    let most = weigh_two(job, first, second)?;
     let mut pieces = [0u32; 640];
-    let count = list_pieces(record, first, &mut pieces);
-    let most = Capacities {
-        first: weighed.first,
-        second: weighed.second,
-    };
+    let count = list_pieces(job, first, &mut pieces);
     put_states(&mut pieces, count, first, second, most);
     let mut floors = [0u16; 2042];
     two_of_pieces(
-        plate,
+        plate_of(job),
         count,
         &pieces,
         most,
@@ -237,7 +190,7 @@ pub fn bound_two_full_demand(
     lengths: &mut [u16],
     widths: &mut [u16],
     table: &mut [u64],
-) -> TwoAnswer
+) -> Result<TwoReport, Refusal>
     ensures { TwoPromises block.now (with_full_demand choices) first.now second.now (lent lengths.old widths.old table.old)
         (lent lengths.new widths.new table.new) result }
 {

@@ -10,31 +10,13 @@ ghost use Rattle.weight_steps.specs.Clauses.{summed_squares};
 // The factor of each round in sixteenths: 2, halved after every third round.
 const FACTORS: [u64; 18] = [32, 32, 32, 16, 16, 16, 8, 8, 8, 4, 4, 4, 2, 2, 2, 1, 1, 1];
 
-// The table's entry of a round.
-fn factor_of(round: u16) -> u64
-    requires { round < 18 }
-    ensures { (result ≡ get_or factors round 0) × (result ≤ 32) }
-{
-    FACTORS[round as usize]
-}
-
-// How far copies lie from the demand.
-fn apart(copies: u16, demand: u16) -> u64
-    ensures { (result ≡ distance copies demand) × (result ≤ 65535) }
-{
-    if copies < demand {
-        return (demand - copies) as u64;
-    }
-    (copies - demand) as u64
-}
-
 // The greatest x up to 255 whose square is at most p / q.
 fn root(p: u64, q: u64) -> u8
     requires { q ≤ 5000000000000 }
     ensures { result ≡ root_below 255 p q }
 {
     for x in 0..255u8 {
-        let y = (x as u64) + 1;
+        let y = u64::from(x) + 1;
         if p < y * y * q {
             return x;
         }
@@ -42,50 +24,17 @@ fn root(p: u64, q: u64) -> u8
     255
 }
 
-// The numerator of s over 16 times the summed squares.
-fn scale_of(f: u64, gap: u64, squares: u64) -> u64
-    requires { (f ≤ 32) × (gap ≤ 1000000000000) × (squares ≤ 274869518400) }
-    ensures { (result ≡ scale f gap squares) × (result ≤ 32000000000000) }
-{
-    let one = 16 * squares;
-    let quotient = f * gap;
-    if one < quotient {
-        return quotient;
-    }
-    one
-}
-
-// A weight after a step up.
-fn raised(weight: u8, x: u8) -> u8
-    ensures { result ≡ min 255 (weight + x) }
-{
-    if 255 - weight < x {
-        return 255;
-    }
-    weight + x
-}
-
-// A weight after a step down.
-fn lowered(weight: u8, x: u8) -> u8
-    ensures { result ≡ weight - x }
-{
-    if weight < x {
-        return 0;
-    }
-    weight - x
-}
-
 // The weight of a kind in the next round, where s is top / q.
 fn adjust(weight: u8, copies: u16, demand: u16, top: u64, q: u64) -> u8
     requires { (top ≤ 32000000000000) × (q ≤ 5000000000000) }
     ensures { result ≡ stepped (ltb demand copies) weight (root_below 255 (distance copies demand * top) q) }
 {
-    let d = apart(copies, demand);
-    let x = root(d * top, q);
+    let x = root(u64::from(copies.abs_diff(demand)) * top, q);
     if demand < copies {
-        return raised(weight, x);
+        weight.saturating_add(x)
+    } else {
+        weight.saturating_sub(x)
     }
-    lowered(weight, x)
 }
 
 // The summed squares of the distances of n kinds.
@@ -93,11 +42,10 @@ fn sum_squares(copies: &[u16; 64], demands: &[u16; 64], n: u16) -> u64
     requires { n ≤ 64 }
     ensures { (result ≡ summed_squares copies.now demands.now n) × (result ≤ 4294836225 * n) }
 {
-    let mut squares = 0u64;
-    for i in 0..n {
-        let k = i as usize;
-        let d = apart(copies[k], demands[k]);
-        squares = squares + d * d;
+    let mut squares = 0;
+    for i in 0..n as usize {
+        let d = u64::from(copies[i].abs_diff(demands[i]));
+        squares += d * d;
     }
     squares
 }
@@ -115,10 +63,9 @@ fn adjust_all(
     ensures { result ≡ entries (λ i. stepped (ltb (get_or demands.now i 0) (get_or copies.now i 0)) (get_or weights.now i 0)
         (root_below 255 (distance (get_or copies.now i 0) (get_or demands.now i 0) * top) q)) n }
 {
-    let mut adjusted = [0u8; 64];
-    for i in 0..n {
-        let k = i as usize;
-        adjusted[k] = adjust(weights[k], copies[k], demands[k], top, q);
+    let mut adjusted = [0; 64];
+    for i in 0..n as usize {
+        adjusted[i] = adjust(weights[i], copies[i], demands[i], top, q);
     }
     adjusted
 }
@@ -136,7 +83,7 @@ pub fn next_weights(
     ensures { result ≡ entries (λ i. adjusted (factor round) gap (summed_squares copies.now demands.now n)
         (get_or weights.now i 0) (get_or copies.now i 0) (get_or demands.now i 0)) n }
 {
-    let squares = sum_squares(copies, demands, n);
-    let top = scale_of(factor_of(round), gap, squares);
-    adjust_all(weights, copies, demands, n, top, 16 * squares)
+    let q = 16 * sum_squares(copies, demands, n);
+    let top = q.max(FACTORS[round as usize] * gap);
+    adjust_all(weights, copies, demands, n, top, q)
 }

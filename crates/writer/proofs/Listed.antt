@@ -1,5 +1,5 @@
 -- Lists of the nodes' kinds and operands: how they grow as the walk goes on, and what stands in the plan arrays once they are copied.
-use Rattle.writer.proofs.Prelude.{◌≡◌, refl, sym, ◌∙◌, ap, ap₂, List, [], ◌∷◌, ◌++◌, map, ℕ, ◌+◌, ◌≤◌, ◌<◌, add-one, arith, length, get_or, set, take, drop, sets, paste, paste-zero, paste-suc, take_at, Node, over, Tree, Piece, preorder, kind_of, operand_of, kinds_of, operands_of, over_sets}
+use Rattle.writer.proofs.Prelude.{◌≡◌, refl, sym, ◌∙◌, ap, ap₂, List, [], ◌∷◌, ◌++◌, map, ℕ, ◌+◌, ◌≤◌, add-one, arith, length, set, take, drop, sets, take_at, Node, over, Tree, Piece, preorder, kind_of, operand_of, kinds_of, operands_of, over_sets}
 
 -- a list of the nodes' kinds, or of their operands, whose entries from one on are still to be put
 module _ (f : Node → ℕ) where
@@ -22,21 +22,9 @@ module _ (t : Tree Piece) {nodes : List Node} (e : nodes ≡ preorder t) (old : 
   unfolding operands_of
   operands_begin = ap (λ ns. sets old 0 (map (λ n. operand_of n) ns)) e
 
--- entries copied from the first on
-module _ (old listed : List ℕ) where
-  pub none_copied : old ≡ paste old 0 listed 0
-  none_copied = paste-zero old 0 listed
-
-  pub one_copied : (i : ℕ) {xs : List ℕ} → xs ≡ paste old 0 listed i → i < length old → i < length listed → set xs i (get_or listed i 0) ≡ paste old 0 listed (i + 1)
-  one_copied i e h l =
-      let z : i ≡ 0 + i = omega arith in
-      let v = get_or listed i 0 in
-      ap (λ ys. set ys i v) e ∙ ap (λ k. set (paste old 0 listed i) k v) z ∙ paste-suc old 0 listed i 0 (omega arith) l ∙ ap (λ k. paste old 0 listed k) (sym (add-one i))
-
-  -- values that were listed and then copied stand over the old contents
-  pub copied_over : (values blank : List ℕ) {n : ℕ} → n ≡ length values → n ≤ length blank → listed ≡ sets blank 0 values → paste old 0 listed n ≡ over values old
-  copied_over values blank {n} e h l =
-      let whole = l ∙ over_sets values blank (omega arith) in
-      let front : take n listed ≡ values = ap (λ xs. take n xs) whole ∙ take_at values (drop (length values) blank) n (sym e) in
-      let k : 0 + n ≡ length values = omega arith in
-      ap₂ (λ xs k. xs ++ drop k old) front k
+-- values that were listed and then copied stand over the old contents
+pub copied_over : (old values blank : List ℕ) {n : ℕ} {listed new : List ℕ} → n ≡ length values → n ≤ length blank → listed ≡ sets blank 0 values → new ≡ take n listed → new ++ drop n old ≡ over values old
+copied_over old values blank {n} e h l p =
+    let whole = l ∙ over_sets values blank (omega arith) in
+    let front = p ∙ ap (λ xs. take n xs) whole ∙ take_at values (drop (length values) blank) n (sym e) in
+    ap₂ (λ xs k. xs ++ drop k old) front e

@@ -160,23 +160,3 @@ module _ (le : ℕ → ℕ → Bool) (kerf : ℕ) (size : TableSize) (pieces : L
         go Waste n f = absurd (subst T (sym f) tt)
         go (node.Piece i) n f = absurd (subst T (sym f) tt)
         go (Turned i) n f = absurd (subst T (sym f) tt)
-
--- a node that is no cut is not left out, and has no first part
-module _ (m : Node) (k : (d : Direction) (x : ℕ) → m ≡ Cut d x → ⊥) where
-  pub none_left_out : (kerf : ℕ) (r : Rect) → false ≡ left_out kerf m r
-  none_left_out kerf r = go m k
-    where
-      go : (m : Node) → ((d : Direction) (x : ℕ) → m ≡ Cut d x → ⊥) → false ≡ left_out kerf m r
-      go Waste k = refl
-      go (node.Piece i) k = refl
-      go (Turned i) k = refl
-      go (Cut d x) k = absurd (k d x refl)
-
-  pub no_first : (cell : Cell) (r : Chosen) → cell ≡ first_of cell r m
-  no_first cell r = go m k
-    where
-      go : (m : Node) → ((d : Direction) (x : ℕ) → m ≡ Cut d x → ⊥) → cell ≡ first_of cell r m
-      go Waste k = refl
-      go (node.Piece i) k = refl
-      go (Turned i) k = refl
-      go (Cut d x) k = absurd (k d x refl)

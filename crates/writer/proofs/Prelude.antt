@@ -1,10 +1,9 @@
 -- What the proofs of this crate take from libraries and from other crates, named once.
 pub use Prim.Native.Nat.{◌%◌, ◌*◌, ◌+◌, ◌-◌, ◌/◌, ◌<◌, ◌≤◌, suc, zero, ℕ}
-pub use borrow.Author.Rules.{rules}
 pub use borrow.Author.Tests.{le-ltb, lt-ltb, ltb-false}
 pub use lib.Dec.{T, eqb, leb, leb→le, le→leb, ltb}
 pub use lib.ListN.{get_or-append as List·getD-append, drop, get_or, length, length-append, length-map, length-set, replicate, set, take}
-pub use lib.Seq.{get_or-set_other, get_or-set_same, length-sets, paste, paste-suc, paste-zero, set_out, sets, take_at}
+pub use lib.Seq.{get_or-set_other, get_or-set_same, sets, take_at}
 pub use mathlib.Core.Bool.{Bool, ◌||◌, false, true}
 pub use mathlib.Core.List.{List, [], ◌++◌, ◌∷◌, append_assoc, append-nil, map}
 pub use mathlib.Core.Path.{◌∙◌, ◌≡◌, ap, ap₂, refl, subst, sym}
@@ -12,11 +11,9 @@ pub use native.Mathlib.Decide.{dec_le, ℕ_discrete}
 pub use native.Mathlib.Nat.{mul-le-mul, mul-le-mul_right}
 pub use native.Mathlib.Numerals.{add-one}
 pub use native.Mathlib.Omega.{arith}
-pub use types.Run.{miss}
 pub use Rattle.bound.proofs.Calls.{range_taken, weights_there}
-pub use Rattle.bound.proofs.Holds.{answered_behind, bound_held, refused_behind}
+pub use Rattle.bound.proofs.Holds.{bound_held}
 pub use Rattle.bound.proofs.Listed.{pieces_bounded, pieces_range}
-pub use Rattle.bound.specs.Bound.{lent}
 pub use Rattle.bound.specs.Clauses.{Boundable, Bounded}
 pub use Rattle.choice.proofs.Numbers.{array_numbered}
 pub use Rattle.choice.specs.Choice.{ChoiceInput, Inside, chosen_at, chosen_of}
@@ -50,11 +47,9 @@ pub use Rattle.job.proofs.Checks.{cons_passed, passed_both}
 pub use Rattle.job.proofs.Taken.{Taken, refused_both, taken}
 pub use Rattle.job.proofs.Weights.{accepted_both, accepted_in_range, weights_passed}
 pub use Rattle.job.specs.Block.{job_of}
-pub use Rattle.job.specs.Weights.{Accepted, block_job, weight_in}
-pub use Rattle.promises.specs.declared.BoundAnswer.{BoundAnswer}
+pub use Rattle.job.specs.Weights.{Accepted, acceptance_of, block_job, weight_in}
+pub use Rattle.job.specs.declared.Acceptance.{Acceptance}
 pub use Rattle.promises.specs.declared.BoundReport.{BoundReport}
-pub use Rattle.promises.specs.declared.Checked.{Checked}
-pub use Rattle.promises.specs.declared.Checked.TheVariants.{Passed, Refused}
 pub use Rattle.promises.specs.declared.Choices.{Choices}
 pub use Rattle.promises.specs.declared.Direction.{Direction}
 pub use Rattle.promises.specs.declared.Direction.TheVariants.{Length, Width}
@@ -63,9 +58,8 @@ pub use Rattle.promises.specs.declared.Node.{Node}
 pub use Rattle.promises.specs.declared.Node.TheVariants.{Cut, Turned, Waste}
 pub use Rattle.promises.specs.declared.Refusal.{Refusal}
 pub use Rattle.promises.specs.declared.Refusal.TheVariants.{PlanLong}
-pub use Rattle.promises.specs.declared.WriteAnswer.{WriteAnswer}
 pub use Rattle.promises.specs.declared.WriteReport.{WriteReport}
-pub use Rattle.refusal.specs.Refusals.{next, outcome_by, refuse_when}
+pub use Rattle.refusal.specs.Refusals.{next, refuse_when}
 unfoldable pub use Rattle.refusal.specs.Refusals.{first_refusal}
 pub use Rattle.states.proofs.Digits.{digits_order}
 pub use Rattle.states.proofs.Ties.{one_digit}
@@ -77,7 +71,9 @@ pub use Rattle.table.specs.States.{Order, by_state}
 unfoldable pub use Rattle.table.specs.States.{below}
 pub use Rattle.table.specs.Table.{Figures, position, words_needed}
 pub use Rattle.table.specs.declared.TableSize.{TableSize}
-pub use Rattle.writer.specs.Clauses.{Copyable, NodesListed, Planned, SettledAt, Stepped, Thick, Waiting, Weighed, cell_at, first_of, half_of, left_out, plan_at, plate_cell, room_verdict, sawn_plan, table_of, whole_plan, with_cell}
+pub use Rattle.writer.specs.Clauses.{NodesListed, Planned, SettledAt, Stepped, Thick, Waiting, Weighed, cell_at, first_of, half_of, left_out, plan_at, plate_cell, room_verdict, sawn_plan, table_of, whole_plan, with_cell}
 unfoldable pub use Rattle.writer.specs.Clauses.{nodes_left}
-pub use Rattle.writer.specs.Write.{BoundWritten, PlanChosen, PlanWritten, WritePromises, block_plan, nodes_check, nodes_verdict, reported, write_answer, write_answer_by, write_outcome, write_report, write_values, write_verdict}
+pub use Rattle.writer.specs.Write.{BoundWritten, PlanChosen, PlanWritten, WritePromises, block_plan, nodes_check, nodes_verdict, reported, write_answer, write_outcome, write_report, write_values, write_verdict}
 pub use Rattle.writer.specs.declared.nodes.Settled.{Settled}
+pub use Rattle.std.proofs.Common.{Ok, Err}
+pub use Rattle.promises.specs.Refusals.{Checked, Answer, passed}

@@ -1,11 +1,12 @@
 -- Writing the plan of an accepted job: what the bound of the job leaves is what the choice reads, and what each refusal or the count of
 -- the nodes makes of the answer.
-use Rattle.writer.proofs.Prelude.{◌≡◌, refl, sym, ◌∙◌, ap, subst, Bool, true, false, ◌||◌, List, [], ◌∷◌, ℕ, ◌+◌, ◌≤◌, arith, ltb-false, ltb, length, get_or, drop, length-append, length-map, List·getD-append, paste, length-sets, Direction, Length, Width, over, preorder, kind_of, operand_of, kinds_of, operands_of, node_count, Sides, most_capacity, Tree, Piece, kind, rect_of, sides_of, by_weight, Job, widened, normal_positions, plan_of, plan_under, InTableRange, size_in, price_in, listed_weight, pieces_job, PieceArray, range_solid, widened_above, listed_above, laid_plan, plain_states, next, refuse_when, first_refusal, Refusal, PlanLong, Checked, Passed, Refused, weight_in, cons_passed, position, words_needed, Figures, Listed, below, by_state, by_state_monotone, figure_one, under, digits_order, one_digit, BoundReport, BoundAnswer, Boundable, Bounded, pieces_range, pieces_bounded, answered_behind, refused_behind, Numbered, ChoiceInput, array_numbered, WriteReport, WriteAnswer, nodes_verdict, reported, NodesListed, Copyable, table_of, whole_plan, Thick, Weighed, room_verdict, Planned}
+use Rattle.writer.proofs.Prelude.{◌≡◌, refl, sym, ◌∙◌, ap, subst, Bool, true, false, ◌||◌, List, [], ◌∷◌, ℕ, ◌+◌, ◌≤◌, arith, ltb-false, ltb, length, get_or, drop, length-append, length-map, List·getD-append, Direction, Length, Width, over, preorder, kind_of, operand_of, kinds_of, operands_of, node_count, Sides, most_capacity, Tree, Piece, kind, rect_of, sides_of, by_weight, Job, widened, normal_positions, plan_of, plan_under, InTableRange, size_in, price_in, listed_weight, pieces_job, PieceArray, range_solid, widened_above, listed_above, laid_plan, plain_states, next, refuse_when, first_refusal, Refusal, PlanLong, weight_in, cons_passed, position, words_needed, Figures, Listed, below, by_state, by_state_monotone, figure_one, under, digits_order, one_digit, BoundReport, Boundable, Bounded, pieces_range, pieces_bounded, Numbered, ChoiceInput, array_numbered, WriteReport, nodes_verdict, reported, NodesListed, table_of, whole_plan, Thick, Weighed, room_verdict, Planned, Ok, Err, passed, Checked, Answer, take, ◌++◌}
 use Rattle.states.specs.States as states
-use Rattle.promises.specs.declared.BoundAnswer.TheVariants as bounded
 use Rattle.bound.specs.Bound as bound
-use Rattle.promises.specs.declared.WriteAnswer.TheVariants as answer
 use Rattle.writer.proofs.Listed.{copied_over}
+use Rattle.std.specs.Result.{IsErrAnd}
+use Rattle.refusal.proofs.Results.{handed, value_answered, refusal_answered, before_refuses}
+use Rattle.job.proofs.Checks.{check_last, passed_false}
 
 -- three tests of which none holds
 pub none_long : (n a b : ℕ) → (ltb 4095 n || ltb a n) || ltb b n ≡ false → (n ≤ 4095) × (n ≤ a) × (n ≤ b)
@@ -18,12 +19,12 @@ none_long n a b e = go (ltb 4095 n) (ltb a n) (ltb b n) refl refl refl e
     go false false true p q r f = absurd (let u : ◌≡◌ {A = ℕ} 0 1 = cc in omega arith)
 
 -- a refusal leaves the plan arrays as they were
-pub untouched : (b : BoundReport) (t : Tree Piece) (kinds operands : List ℕ) (r : Refusal) → Planned (Refused r) b t kinds operands kinds operands (answer.Refused r)
-untouched b t kinds operands r = record { answer = refl; kinds_left = refl; operands_left = refl }
+pub untouched : (b : BoundReport) (t : Tree Piece) (kinds operands : List ℕ) {v : Checked} {x : Refusal} {r : Answer WriteReport} → v ≡ Err x → IsErrAnd r (λ y. y ≡ x) → Planned v b t kinds operands kinds operands r
+untouched b t kinds operands e p = rw e (record { answer = handed _ p; kinds_left = refl; operands_left = refl })
 
-pub one_passed : (t : Bool) (r : Refusal) → t ≡ false → first_refusal ((t, r) ∷ []) ≡ Passed
+pub one_passed : (t : Bool) (r : Refusal) → t ≡ false → first_refusal ((t, r) ∷ []) ≡ passed
 unfolding first_refusal
-one_passed t r e = ap (λ x. next (refuse_when x r) Passed) e
+one_passed t r e = ap (λ x. next (refuse_when x r) passed) e
 
 -- the normal positions over old contents
 pub listed_over : (J : Job) (d : Direction) (old : List ℕ) → Listed J d (over (normal_positions J d) old)
@@ -43,12 +44,12 @@ one_shares m weight = plain_states weight
 
 -- what the choice reads, from what the bound of the pieces leaves
 module _ (plate : Sides) (n : ℕ) (pieces : List ℕ) (q : ℕ) (range : InTableRange (pieces_job (rect_of plate) n pieces)) (most : q ≤ most_capacity) (numbered : Numbered n pieces)
-    (old new : bound.Memory) (floors : List ℕ) {b : BoundAnswer} (left : Bounded (pieces_job (rect_of plate) n pieces) (listed_weight pieces) q old new floors b) (report : BoundReport) (e : b ≡ bounded.Answered report) where
+    (old new : bound.Memory) (floors : List ℕ) {b : Answer BoundReport} (left : Bounded (pieces_job (rect_of plate) n pieces) (listed_weight pieces) q old new floors b) (report : BoundReport) (e : b ≡ Ok report) where
   abbrev N : Job
   N = pieces_job (rect_of plate) n pieces
 
-  behind : (first_refusal (bound.memory_checks N q old) ≡ Passed) × (report ≡ bound.bound_report N (listed_weight pieces) q)
-  behind = answered_behind (first_refusal (bound.memory_checks N q old)) (bound.bound_report N (listed_weight pieces) q) (sym e ∙ left.answer)
+  behind : (first_refusal (bound.memory_checks N q old) ≡ passed) × (report ≡ bound.bound_report N (listed_weight pieces) q)
+  behind = value_answered _ _ (sym left.answer ∙ e)
 
   pub choice_input : ChoiceInput (table_of plate n report) ((q + 1) ∷ []) 0 pieces new.lengths new.widths floors new.table
   choice_input =
@@ -56,7 +57,7 @@ module _ (plate : Sides) (n : ℕ) (pieces : List ℕ) (q : ℕ) (range : InTabl
       let words = bound.table_check N q (length old.table) in
       let long = cons_passed lists.0 lists.1 (words ∷ []) behind.0 in
       let room = cons_passed words.0 words.1 [] long.1 in
-      let v : first_refusal (lists ∷ []) ≡ Passed = one_passed lists.0 lists.1 long.0 in
+      let v : first_refusal (lists ∷ []) ≡ passed = one_passed lists.0 lists.1 long.0 in
       let l : new.lengths ≡ over (normal_positions N Length) old.lengths = left.memory.lengths ∙ ap (λ u. bound.list_after u (normal_positions N Length) old.lengths) v in
       let w : new.widths ≡ over (normal_positions N Width) old.widths = left.memory.widths ∙ ap (λ u. bound.list_after u (normal_positions N Width) old.widths) v in
       let f = subst (λ u. bound.TableAfter u N (listed_weight pieces) q old.table new.table) behind.0 left.memory.table in
@@ -87,12 +88,12 @@ boundable {J} {ws} {q} given {plate} {n} {pieces} {floors} on array h =
 
 -- the plan of a job by the answer of its pieces' bound
 module _ {J : Job} {ws : List ℕ} {q : ℕ} (given : Weighed J ws q) {plate : Sides} {n : ℕ} {pieces : List ℕ} (on : plate ≡ sides_of (widened J).plate) (array : PieceArray (widened J) (weight_in ws) n pieces)
-    {old new : bound.Memory} {floors : List ℕ} {b : BoundAnswer} (left : Bounded (pieces_job (rect_of plate) n pieces) (listed_weight pieces) q old new floors b) where
+    {old new : bound.Memory} {floors : List ℕ} {b : Answer BoundReport} (left : Bounded (pieces_job (rect_of plate) n pieces) (listed_weight pieces) q old new floors b) where
   -- the same of the job, the kerf added to every side
   whole : Bounded (widened J) (weight_in ws) q old new floors b
   whole = pieces_bounded (widened J) (weight_in ws) n pieces array q old new floors b (subst (λ p. Bounded (pieces_job (rect_of p) n pieces) (listed_weight pieces) q old new floors b) on left)
 
-  pub memory_left : bound.Leaves Passed (widened J) (weight_in ws) q old new
+  pub memory_left : bound.Leaves passed (widened J) (weight_in ws) q old new
   memory_left = whole.memory
 
   abbrev storage : Checked
@@ -105,20 +106,18 @@ module _ {J : Job} {ws : List ℕ} {q : ℕ} (given : Weighed J ws q) {plate : S
   R = bound.bound_report (widened J) (weight_in ws) q
 
   -- the bound is refused: so is the plan
-  pub bound_refused : (kinds operands : List ℕ) {r : Refusal} → b ≡ bounded.Refused r → Planned (room_verdict (widened J) q old T kinds operands) R T kinds operands kinds operands (answer.Refused r)
-  bound_refused kinds operands {r} e =
-      let v = refused_behind storage R (sym e ∙ whole.answer) in
-      subst (λ v. Planned (next v (nodes_verdict T kinds operands)) R T kinds operands kinds operands (answer.Refused r)) (sym v) (untouched R T kinds operands r)
+  pub bound_refused : (kinds operands : List ℕ) {x : Refusal} {r : Answer WriteReport} → b ≡ Err x → IsErrAnd r (λ y. y ≡ x) → Planned (room_verdict (widened J) q old T kinds operands) R T kinds operands kinds operands r
+  bound_refused kinds operands e = untouched R T kinds operands (before_refuses storage _ (refusal_answered _ R (sym whole.answer ∙ e)))
 
-  module _ {report : BoundReport} (e : b ≡ bounded.Answered report) where
+  module _ {report : BoundReport} (e : b ≡ Ok report) where
     -- what planning asks
     pub plan_ready : ChoiceInput (table_of plate n report) ((q + 1) ∷ []) 0 pieces new.lengths new.widths floors new.table
     plan_ready =
         let range = subst (λ p. InTableRange (pieces_job (rect_of p) n pieces)) (sym on) (pieces_range J (weight_in ws) n pieces array given.in_range) in
         choice_input plate n pieces q range given.most (array_numbered (widened J) (weight_in ws) n pieces array given.in_range.kinds.1) old new floors left report e
 
-    stored : (storage ≡ Passed) × (report ≡ R)
-    stored = answered_behind storage R (sym e ∙ whole.answer)
+    stored : (storage ≡ passed) × (report ≡ R)
+    stored = value_answered storage R (sym whole.answer ∙ e)
 
     -- every side of the pieces is above the kerf
     pub plan_thick : Thick J.kerf (table_of plate n report) pieces
@@ -131,7 +130,7 @@ module _ {J : Job} {ws : List ℕ} {q : ℕ} (given : Weighed J ws q) {plate : S
         ∙ ap (λ H. plan_of J H (widened J).plate.0 (widened J).plate.1 q) (one_shares (q + 1) (λ p. weight_in ws (kind p))))
 
     -- check 21 alone is left
-    pub plan_made : {kinds operands new_kinds new_operands : List ℕ} {r : WriteAnswer}
+    pub plan_made : {kinds operands new_kinds new_operands : List ℕ} {r : Answer WriteReport}
         → Planned (nodes_verdict (whole_plan (under ((q + 1) ∷ []) 0) J.kerf (table_of plate n report) pieces) kinds operands) report (whole_plan (under ((q + 1) ∷ []) 0) J.kerf (table_of plate n report) pieces) kinds operands new_kinds new_operands r
         → Planned (room_verdict (widened J) q old T kinds operands) R T kinds operands new_kinds new_operands r
     plan_made {kinds} {operands} {new_kinds} {new_operands} {r} p =
@@ -141,36 +140,28 @@ module _ {J : Job} {ws : List ℕ} {q : ℕ} (given : Weighed J ws q) {plate : S
 
 -- the plan by the number of its nodes
 module _ (report : BoundReport) (T : Tree Piece) (kinds operands : List ℕ) {blank_kinds blank_operands listed_kinds listed_operands : List ℕ} {nodes : ℕ} (l : NodesListed T blank_kinds blank_operands listed_kinds listed_operands nodes)
-    {long : Bool} (t : long ≡ (ltb 4095 nodes || ltb (length kinds) nodes) || ltb (length operands) nodes) where
-  verdict : (b : Bool) → long ≡ b → nodes_verdict T kinds operands ≡ first_refusal ((b, PlanLong nodes) ∷ [])
-  verdict b h = rw (sym l.number) (ap (λ x. first_refusal ((x, PlanLong nodes) ∷ [])) (sym t ∙ h))
+    {long : Bool} (t : long ≡ (ltb 4095 nodes || ltb (length kinds) nodes) || ltb (length operands) nodes) {a : Checked} (k : a ≡ refuse_when long (PlanLong nodes)) where
+  judged : nodes_verdict T kinds operands ≡ a
+  judged = rw (sym l.number) (sym (check_last _ _ (k ∙ ap (λ b. refuse_when b (PlanLong nodes)) t)))
 
   -- it is too long: refusal 21 with the nodes needed
-  pub plan_refused : long ≡ true → Planned (nodes_verdict T kinds operands) report T kinds operands kinds operands (answer.Refused (PlanLong nodes))
-  unfolding first_refusal
-  plan_refused h = subst (λ v. Planned v report T kinds operands kinds operands (answer.Refused (PlanLong nodes))) (sym (verdict true h)) (untouched report T kinds operands (PlanLong nodes))
+  pub plan_refused : {x : Refusal} {r : Answer WriteReport} → a ≡ Err x → IsErrAnd r (λ y. y ≡ x) → Planned (nodes_verdict T kinds operands) report T kinds operands kinds operands r
+  plan_refused e = untouched report T kinds operands (judged ∙ e)
 
-  module _ (a : length blank_kinds ≡ 4095) (b : length blank_operands ≡ 4095) (h : long ≡ false) where
-    few : (nodes ≤ 4095) × (nodes ≤ length kinds) × (nodes ≤ length operands)
-    few = none_long nodes (length kinds) (length operands) (sym t ∙ h)
-
-    -- there is room: the listed nodes can be copied
-    pub copy_ready : Copyable nodes listed_kinds listed_operands kinds operands
-    copy_ready =
-        let k = ap length l.kinds_listed ∙ length-sets blank_kinds 0 (kinds_of T) in
-        let o = ap length l.operands_listed ∙ length-sets blank_operands 0 (operands_of T) in
-        record { kinds_listed = omega (arith, few.0, k, a); operands_listed = omega (arith, few.0, o, b); kinds_fit = few.1; operands_fit = few.2 }
+  module _ (e : a ≡ passed) where
+    -- there is room
+    pub few : (nodes ≤ 4095) × (nodes ≤ length kinds) × (nodes ≤ length operands)
+    few = none_long nodes (length kinds) (length operands) (sym t ∙ passed_false long _ (sym k ∙ e))
 
     -- then the plan stands over the arrays' first entries, and is reported
-    pub plan_written : {written : WriteReport} {new_kinds new_operands : List ℕ} → written ≡ reported report nodes → new_kinds ≡ paste kinds 0 listed_kinds nodes → new_operands ≡ paste operands 0 listed_operands nodes
-        → Planned (nodes_verdict T kinds operands) report T kinds operands new_kinds new_operands (answer.Written written)
-    unfolding first_refusal kinds_of operands_of node_count
-    plan_written {written} {new_kinds} {new_operands} w p o =
-        let k : nodes ≡ length (kinds_of T) = l.number ∙ sym (length-map (preorder T) (λ n. kind_of n)) in
-        let m : nodes ≡ length (operands_of T) = l.number ∙ sym (length-map (preorder T) (λ n. operand_of n)) in
-        subst (λ v. Planned v report T kinds operands new_kinds new_operands (answer.Written written))
-        (sym (verdict false h)) (record {
+    pub plan_written : length blank_kinds ≡ 4095 → length blank_operands ≡ 4095 → {written : WriteReport} {new_kinds new_operands : List ℕ} → written ≡ reported report nodes → new_kinds ≡ take nodes listed_kinds → new_operands ≡ take nodes listed_operands
+        → Planned (nodes_verdict T kinds operands) report T kinds operands (new_kinds ++ drop nodes kinds) (new_operands ++ drop nodes operands) (Ok written)
+    unfolding kinds_of operands_of node_count
+    plan_written m n w p o =
+        let i : nodes ≡ length (kinds_of T) = l.number ∙ sym (length-map (preorder T) (λ n. kind_of n)) in
+        let j : nodes ≡ length (operands_of T) = l.number ∙ sym (length-map (preorder T) (λ n. operand_of n)) in
+        rw (judged, e) (record {
           answer = rw (w, l.number) refl;
-          kinds_left = p ∙ copied_over kinds listed_kinds (kinds_of T) blank_kinds k (omega (arith, few.0, a)) l.kinds_listed;
-          operands_left = o ∙ copied_over operands listed_operands (operands_of T) blank_operands m (omega (arith, few.0, b)) l.operands_listed;
+          kinds_left = copied_over kinds (kinds_of T) blank_kinds i (omega (arith, few.0, m)) l.kinds_listed p;
+          operands_left = copied_over operands (operands_of T) blank_operands j (omega (arith, few.0, n)) l.operands_listed o;
         })

@@ -12,8 +12,7 @@ use Rattle.cutting.specs.declared.Sides.{Sides}
 use Rattle.cutting.specs.Sides.{rect_of, sides_of}
 use Rattle.cutting.specs.Job.{Job, InRange, KindsAbove}
 use Rattle.cutting.specs.Listed.{array_plan}
-use Rattle.refusal.specs.Refusals.{next, first_refusal}
-use Rattle.promises.specs.declared.Checked.{Checked}
+use Rattle.refusal.specs.Refusals.{Answer, Checked, answer_by, next, first_refusal}
 use Rattle.table.specs.declared.TableSize.{TableSize}
 use Rattle.table.specs.Clauses.{size_job}
 use Rattle.states.specs.States.{under}
@@ -25,8 +24,8 @@ use Rattle.choice.specs.Choice.{ChoiceInput, Inside, chosen_at}
 use Rattle.writer.specs.declared.Sawing.{Sawing}
 use Rattle.writer.specs.declared.nodes.Settled.{Settled}
 use Rattle.writer.specs.declared.nodes.Step.{Step}
-use Rattle.promises.specs.declared.WriteAnswer.{WriteAnswer}
-use Rattle.writer.specs.Write.{nodes_verdict, reported, write_answer_by}
+use Rattle.writer.specs.Write.{nodes_verdict, reported}
+use Rattle.promises.specs.declared.WriteReport.{WriteReport}
 
 -- the cell at place i: its length, width and share
 abbrev pub cell_at : List ℕ → ℕ → Cell
@@ -110,13 +109,6 @@ pub record NodesListed (t : Tree laid.Piece) (kinds operands new_kinds new_opera
   pub kinds_listed : new_kinds ≡ sets kinds 0 (kinds_of t)
   pub operands_listed : new_operands ≡ sets operands 0 (operands_of t)
 
--- what copying n listed nodes asks: both lists have so many entries, and both arrays room for them
-pub record Copyable (n : ℕ) (listed_kinds listed_operands kinds operands : List ℕ) : Type 0 where
-  pub kinds_listed : n ≤ length listed_kinds
-  pub operands_listed : n ≤ length listed_operands
-  pub kinds_fit : n ≤ length kinds
-  pub operands_fit : n ≤ length operands
-
 -- the size of the table that a report is of
 abbrev pub table_of : Sides → ℕ → BoundReport → TableSize
 table_of plate count report = record { length = plate.length; width = plate.width; count = count; rows = report.length_count; columns = report.columns; capacity = report.capacity }
@@ -132,7 +124,7 @@ abbrev pub room_verdict : Job → ℕ → Memory → Tree laid.Piece → List �
 room_verdict J q m t kinds operands = next (first_refusal (memory_checks J q m)) (nodes_verdict t kinds operands)
 
 -- what a verdict makes of the answer, and of the plan arrays: the plan over their old contents, or as they were
-pub record Planned (v : Checked) (b : BoundReport) (t : Tree laid.Piece) (kinds operands new_kinds new_operands : List ℕ) (r : WriteAnswer) : Type 0 where
-  pub answer : r ≡ write_answer_by v (reported b (node_count t))
+pub record Planned (v : Checked) (b : BoundReport) (t : Tree laid.Piece) (kinds operands new_kinds new_operands : List ℕ) (r : Answer WriteReport) : Type 0 where
+  pub answer : r ≡ answer_by v (reported b (node_count t))
   pub kinds_left : new_kinds ≡ list_after v (kinds_of t) kinds
   pub operands_left : new_operands ≡ list_after v (operands_of t) operands

@@ -1,7 +1,7 @@
 -- The writing call: check 21, its answer with the number and values, what it leaves in the plan arrays, and what it promises of the plan
 -- and of the answered bound.
 -- docs/SCOPE.md: The written plan; Lent memory.
-use Rattle.std.specs.Prelude.{◌≡◌, ◌||◌, List, [], ◌∷◌, ℕ, ltb, length}
+use Rattle.std.specs.Prelude.{◌≡◌, ◌||◌, List, [], ◌∷◌, ℕ, ltb, length, Ok}
 use Rattle.cutting.specs.Limits.{most_nodes}
 use Rattle.cutting.specs.Tree.{Tree, IdleFree}
 use Rattle.cutting.specs.Pieces.{Piece}
@@ -9,17 +9,14 @@ use Rattle.cutting.specs.Preorder.{kinds_of, operands_of, node_count}
 use Rattle.cutting.specs.Lists.{over}
 use Rattle.cutting.specs.Job.{Job, by_kind, bound_of, bound_plan}
 use Rattle.cutting.specs.Promises.{EarnsWithin, PlanFollows}
-use Rattle.refusal.specs.Refusals.{Check, Outcome, next, first_refusal, by_check, outcome_by}
-use Rattle.promises.specs.declared.Checked.{Checked}
+use Rattle.refusal.specs.Refusals.{Answer, Check, Checked, Outcome, next, first_refusal, answer_by, outcome_by, outcome_of}
 use Rattle.promises.specs.declared.Refusal.TheVariants.{PlanLong}
 use Rattle.promises.specs.declared.Choices.{Choices}
 use Rattle.job.specs.Weights.{block_job, weight_in, Accepted}
 use Rattle.promises.specs.declared.BoundReport.{BoundReport}
 use Rattle.bound.specs.Bound.{Memory, list_after, block_capacity, block_report, bound_verdict, BoundLeaves, BoundHolds}
 use Rattle.promises.specs.declared.WriteReport.{WriteReport}
-use Rattle.promises.specs.declared.WriteAnswer.{WriteAnswer}
-use Rattle.promises.specs.declared.WriteAnswer.TheVariants as answer
-pub use Rattle.promises.specs.Calls.{write_values, write_outcome}
+pub use Rattle.promises.specs.Calls.{write_values}
 
 -- check 21: the plan needs above 4,095 nodes, or more than an array of m or of n entries holds, with the nodes needed
 abbrev pub nodes_check : Tree Piece → ℕ → ℕ → Check
@@ -32,10 +29,6 @@ nodes_verdict t kinds operands = first_refusal (nodes_check t (length kinds) (le
 -- a bound's report with the number of the plan's nodes
 abbrev pub reported : BoundReport → ℕ → WriteReport
 reported b n = record { bound = b.bound; capacity = b.capacity; length_count = b.length_count; columns = b.columns; nodes = n }
-
--- the report, or the refusal
-abbrev pub write_answer_by : Checked → WriteReport → WriteAnswer
-write_answer_by v b = by_check v (answer.Written b) answer.Refused
 
 -- the plan behind the bound of a job block and weights
 abbrev pub block_plan : List ℕ → Choices → List ℕ → Tree Piece
@@ -50,10 +43,14 @@ abbrev pub write_verdict : List ℕ → Choices → List ℕ → Memory → List
 write_verdict s choices ws m kinds operands = next (bound_verdict s choices ws m) (nodes_verdict (block_plan s choices ws) kinds operands)
 
 -- what the writing call answers
-abbrev pub write_answer : List ℕ → Choices → List ℕ → Memory → List ℕ → List ℕ → WriteAnswer
-write_answer s choices ws m kinds operands = write_answer_by (write_verdict s choices ws m kinds operands) (write_report s choices ws)
+abbrev pub write_answer : List ℕ → Choices → List ℕ → Memory → List ℕ → List ℕ → Answer WriteReport
+write_answer s choices ws m kinds operands = answer_by (write_verdict s choices ws m kinds operands) (write_report s choices ws)
 
--- the number and values that the call answers
+-- an answer's number and values: the bound, Q, p, r and the node count
+abbrev pub write_outcome : Answer WriteReport → Outcome
+write_outcome r = outcome_of write_values r
+
+-- those that the call answers
 abbrev pub write_said : List ℕ → Choices → List ℕ → Memory → List ℕ → List ℕ → Outcome
 write_said s choices ws m kinds operands = outcome_by (write_verdict s choices ws m kinds operands) (write_values (write_report s choices ws))
 
@@ -78,17 +75,17 @@ pub record TreeWritten (J : Job) (weight : ℕ → ℕ) (t : Tree Piece) (kinds 
   pub counted : b.nodes ≡ node_count t
 
 -- an answer reports the plan behind the bound as it was written
-abbrev pub PlanWritten : List ℕ → Choices → List ℕ → (kinds operands new_kinds new_operands : List ℕ) → WriteAnswer → Type 0
-PlanWritten s choices ws kinds operands new_kinds new_operands r = (b : WriteReport) → r ≡ answer.Written b
+abbrev pub PlanWritten : List ℕ → Choices → List ℕ → (kinds operands new_kinds new_operands : List ℕ) → Answer WriteReport → Type 0
+PlanWritten s choices ws kinds operands new_kinds new_operands r = (b : WriteReport) → r ≡ Ok b
     → TreeWritten (block_job s choices) (weight_in ws) (block_plan s choices ws) kinds operands new_kinds new_operands b
 
 -- an answered bound holds at the answered capacity, as the bound call's does
-abbrev pub BoundWritten : List ℕ → Choices → List ℕ → WriteAnswer → Type 0
-BoundWritten s choices ws r = (b : WriteReport) → r ≡ answer.Written b → BoundHolds (block_job s choices) (weight_in ws) b.capacity b.bound
+abbrev pub BoundWritten : List ℕ → Choices → List ℕ → Answer WriteReport → Type 0
+BoundWritten s choices ws r = (b : WriteReport) → r ≡ Ok b → BoundHolds (block_job s choices) (weight_in ws) b.capacity b.bound
 
 -- what the writing call promises of its answer and of all that it is lent: answer, lists, table and plan arrays are the definitions',
 -- number and values too; the plan follows the order of choice and has no idle cut; an answer reports the plan as it was written, and its bound holds
-pub record WritePromises (s : List ℕ) (choices : Choices) (ws : List ℕ) (old new : Memory) (kinds operands new_kinds new_operands : List ℕ) (r : WriteAnswer) : Type 0 where
+pub record WritePromises (s : List ℕ) (choices : Choices) (ws : List ℕ) (old new : Memory) (kinds operands new_kinds new_operands : List ℕ) (r : Answer WriteReport) : Type 0 where
   pub answers : r ≡ write_answer s choices ws old kinds operands
   pub outcome : write_outcome r ≡ write_said s choices ws old kinds operands
   pub memory : BoundLeaves s choices ws old new

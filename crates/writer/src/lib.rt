@@ -8,31 +8,25 @@ ghost use Rattle.cutting.specs.Limits.{most_nodes};
 ghost use Rattle.cutting.specs.Job.{widened, plan_under};
 ghost use Rattle.job.specs.Block.{with_full_demand, job_of};
 ghost use Rattle.job.specs.Weights.{weight_in};
-ghost use Rattle.promises.specs.declared.Checked.TheVariants.{Passed};
+ghost use Rattle.promises.specs.Refusals.{passed};
 ghost use Rattle.bound.specs.Bound.{lent, Leaves, bound_report};
 ghost use Rattle.writer.specs.Clauses.{table_of, Readable, sawn_plan, Weighed, room_verdict, Planned};
 ghost use Rattle.writer.specs.Write.{reported, nodes_verdict, WritePromises};
 
 use bound::bound_of_pieces;
 use cutting::Sides;
-use nodes::{copy_nodes, list_nodes};
+use job::Acceptance;
+use nodes::list_nodes;
 use pieces::{list_pieces, plate_of};
-use promises::{
-    BoundAnswer, BoundReport, Checked, Choices, JobRecord, Refusal, WriteAnswer, WriteReport,
-};
+use promises::{BoundReport, Choices, JobRecord, Refusal, WriteReport};
+use refusal::refuse_if;
 use table::TableSize;
 
 // Whether a plan needs above 4,095 nodes, or more than an array of m or of n entries holds.
 fn too_long(nodes: u64, m: usize, n: usize) -> bool
     ensures { result ≡ (ltb most_nodes nodes || ltb m nodes) || ltb n nodes }
 {
-    if 4095 < nodes {
-        return true;
-    }
-    if (m as u64) < nodes {
-        return true;
-    }
-    (n as u64) < nodes
+    4095 < nodes || (m as u64) < nodes || (n as u64) < nodes
 }
 
 // The bound's report with the number of the plan's nodes.
@@ -44,7 +38,7 @@ fn with_nodes(report: BoundReport, nodes: u64) -> WriteReport
         capacity: report.capacity,
         length_count: report.length_count,
         columns: report.columns,
-        nodes: nodes,
+        nodes,
     }
 }
 
@@ -70,7 +64,7 @@ pub fn plan_of_pieces(
     blocks: &[u32],
     kinds: &mut [u8],
     operands: &mut [u16],
-) -> WriteAnswer
+) -> Result<WriteReport, Refusal>
     requires { Readable sawing blocks.now pieces.now normal_lengths.now normal_widths.now floors.now table.now }
     ensures { Planned (nodes_verdict (sawn_plan sawing blocks.now pieces.now) kinds.old operands.old) sawing.report (sawn_plan sawing blocks.now pieces.now)
         kinds.old operands.old kinds.new operands.new result }
@@ -89,13 +83,13 @@ pub fn plan_of_pieces(
         blocks,
     );
     let nodes = count as u64;
-    if too_long(nodes, kinds.len(), operands.len()) {
-        return WriteAnswer::Refused(Refusal::PlanLong(nodes));
-    }
-    copy_nodes(count, &own_kinds[..], &own_operands[..], kinds, operands);
-    let report = sawing.report;
-    let written = with_nodes(report, nodes);
-    WriteAnswer::Written(written)
+    refuse_if(
+        too_long(nodes, kinds.len(), operands.len()),
+        Refusal::PlanLong(nodes),
+    )?;
+    kinds[..count].copy_from_slice(&own_kinds[..count]);
+    operands[..count].copy_from_slice(&own_operands[..count]);
+    Ok(with_nodes(sawing.report, nodes))
 }
 
 // The size of the table that a report is of.
@@ -105,7 +99,7 @@ pub fn table_of(plate: Sides, count: u16, report: BoundReport) -> TableSize
     TableSize {
         length: plate.length,
         width: plate.width,
-        count: count,
+        count,
         rows: report.length_count,
         columns: report.columns,
         capacity: report.capacity,
@@ -122,9 +116,9 @@ fn write_accepted(
     table: &mut [u64],
     kinds: &mut [u8],
     operands: &mut [u16],
-) -> WriteAnswer
+) -> Result<WriteReport, Refusal>
     requires { Weighed (job_of job) weights.now q }
-    ensures memory { Leaves Passed (widened (job_of job)) (weight_in weights.now) q
+    ensures memory { Leaves passed (widened (job_of job)) (weight_in weights.now) q
         (lent normal_lengths.old normal_widths.old table.old) (lent normal_lengths.new normal_widths.new table.new) }
     ensures plan { Planned (room_verdict (widened (job_of job)) q (lent normal_lengths.old normal_widths.old table.old) (plan_under (job_of job) (weight_in weights.now) q) kinds.old operands.old)
         (bound_report (widened (job_of job)) (weight_in weights.now) q) (plan_under (job_of job) (weight_in weights.now) q) kinds.old operands.old kinds.new operands.new result }
@@ -134,7 +128,7 @@ fn write_accepted(
     let count = list_pieces(job, weights, &mut pieces);
     let blocks = [(q as u32) + 1; 1];
     let mut floors = [0u16; 2042];
-    let bounded = bound_of_pieces(
+    let report = bound_of_pieces(
         plate,
         count,
         &pieces,
@@ -143,26 +137,24 @@ fn write_accepted(
         normal_widths,
         &mut floors,
         table,
-    );
-    match bounded {
-        BoundAnswer::Refused(r) => WriteAnswer::Refused(r),
-        BoundAnswer::Answered(report) => plan_of_pieces(
-            Sawing {
-                size: table_of(plate, count, report),
-                report: report,
-                d: 0,
-                kerf: job.kerf,
-            },
-            &pieces,
-            &normal_lengths[..],
-            &normal_widths[..],
-            &floors[..],
-            &table[..],
-            &blocks,
-            kinds,
-            operands,
-        ),
-    }
+    )?;
+    let sawing = Sawing {
+        size: table_of(plate, count, report),
+        report,
+        d: 0,
+        kerf: job.kerf,
+    };
+    plan_of_pieces(
+        sawing,
+        &pieces,
+        &normal_lengths[..],
+        &normal_widths[..],
+        &floors[..],
+        &table[..],
+        &blocks,
+        kinds,
+        operands,
+    )
 }
 
 // The plan behind the bound of a job block and weights, in preorder in the two plan arrays. Lists and table are left as the bound call
@@ -176,18 +168,14 @@ pub fn write_plan(
     table: &mut [u64],
     kinds: &mut [u8],
     operands: &mut [u16],
-) -> WriteAnswer
+) -> Result<WriteReport, Refusal>
     ensures { WritePromises block.now choices weights.now (lent lengths.old widths.old table.old)
         (lent lengths.new widths.new table.new) kinds.old operands.old kinds.new operands.new result }
 {
-    let accepted = job::accept(block, choices, weights);
-    let verdict = accepted.verdict;
-    if let Checked::Refused(r) = verdict {
-        return WriteAnswer::Refused(r);
-    }
-    let job = accepted.job;
-    let q = accepted.capacity;
-    write_accepted(job, weights, q, lengths, widths, table, kinds, operands)
+    let Acceptance { job, capacity } = job::accept(block, choices, weights)?;
+    write_accepted(
+        job, weights, capacity, lengths, widths, table, kinds, operands,
+    )
 }
 
 // The same with the capacity of the full demands, whatever the choices say of it.
@@ -200,7 +188,7 @@ pub fn write_plan_full_demand(
     table: &mut [u64],
     kinds: &mut [u8],
     operands: &mut [u16],
-) -> WriteAnswer
+) -> Result<WriteReport, Refusal>
     ensures { WritePromises block.now (with_full_demand choices) weights.now (lent lengths.old widths.old table.old)
         (lent lengths.new widths.new table.new) kinds.old operands.old kinds.new operands.new result }
 {

@@ -4,13 +4,12 @@
 // The half perimeter of a waiting cell and its place are at most the plate's half perimeter, so at most 2,039 cells wait, and one array of
 // 6,120 entries holds them.
 ghost use Rattle.std.specs.Prelude.{◌≡◌, ◌<◌, length, set};
-ghost use Rattle.std.proofs.Math.Seq.{paste};
 ghost use Rattle.cutting.specs.Preorder.{kind_of, operand_of};
 ghost use Rattle.cutting.specs.Sides.{rect_of};
 ghost use Rattle.table.specs.Clauses.{size_job};
 ghost use Rattle.states.specs.States.{under};
 ghost use Rattle.choice.specs.Choice.{Inside};
-ghost use Rattle.writer.specs.Clauses.{cell_at, with_cell, plate_cell, left_out, first_of, SettledAt, Readable, sawn_plan, Waiting, Stepped, NodesListed, Copyable};
+ghost use Rattle.writer.specs.Clauses.{cell_at, with_cell, plate_cell, left_out, first_of, SettledAt, Readable, sawn_plan, Waiting, Stepped, NodesListed};
 
 use crate::Sawing;
 use choice::{Cell, Chosen, choose};
@@ -75,8 +74,7 @@ fn put_cell(waiting: &mut [u16; 6120], i: usize, cell: Cell)
 fn left_out(cell: Cell, chosen: Chosen, kerf: u16) -> bool
     ensures { result ≡ left_out kerf chosen.node (rect_of cell.sides) }
 {
-    let node = chosen.node;
-    let Node::Cut(d, x) = node else {
+    let Node::Cut(d, x) = chosen.node else {
         return false;
     };
     (cut_side(d, cell.sides) as u32) <= (x as u32) + (kerf as u32)
@@ -86,8 +84,7 @@ fn left_out(cell: Cell, chosen: Chosen, kerf: u16) -> bool
 fn first_cell(cell: Cell, chosen: Chosen) -> Cell
     ensures { result ≡ first_of cell chosen chosen.node }
 {
-    let node = chosen.node;
-    let Node::Cut(d, x) = node else {
+    let Node::Cut(d, x) = chosen.node else {
         return cell;
     };
     Cell {
@@ -138,10 +135,7 @@ fn settle(
             d,
         );
     }
-    Settled {
-        cell: at,
-        chosen: chosen,
-    }
+    Settled { cell: at, chosen }
 }
 
 // The node of the cell on top, which the parts of its cut replace, the second below the first. A cut stands at its position less the kerf.
@@ -160,7 +154,7 @@ fn next_node(
     ensures { Stepped (under blocks.now sawing.d) sawing.kerf sawing.size pieces.now waiting.old waiting.new depth result }
 {
     let top = depth - 1;
-    let settled = settle(
+    let Settled { cell, chosen } = settle(
         waiting_cell(waiting, top),
         sawing,
         pieces,
@@ -170,12 +164,9 @@ fn next_node(
         table,
         blocks,
     );
-    let cell = settled.cell;
-    let chosen = settled.chosen;
-    let node = chosen.node;
-    let Node::Cut(d, x) = node else {
+    let Node::Cut(d, x) = chosen.node else {
         return Step {
-            node: node,
+            node: chosen.node,
             depth: top,
         };
     };
@@ -197,10 +188,8 @@ fn written_kind(node: Node) -> u8
     ensures { result ≡ kind_of node }
 {
     match node {
-        Node::Cut(d, _) => match d {
-            Direction::Length => 2,
-            Direction::Width => 3,
-        },
+        Node::Cut(Direction::Length, _) => 2,
+        Node::Cut(Direction::Width, _) => 3,
         Node::Waste => 0,
         Node::Piece(_) => 1,
         Node::Turned(_) => 4,
@@ -257,29 +246,10 @@ pub fn list_nodes(
             table,
             blocks,
         );
-        let node = step.node;
-        put_kind(kinds, nodes, node);
-        put_operand(operands, nodes, node);
+        put_kind(kinds, nodes, step.node);
+        put_operand(operands, nodes, step.node);
         depth = step.depth;
         nodes += 1;
     }
     nodes
-}
-
-// Copies the first entries of the listed kinds and operands.
-pub fn copy_nodes(
-    nodes: usize,
-    listed_kinds: &[u8],
-    listed_operands: &[u16],
-    kinds: &mut [u8],
-    operands: &mut [u16],
-)
-    requires { Copyable nodes listed_kinds.now listed_operands.now kinds.old operands.old }
-    ensures { (kinds.new ≡ paste kinds.old 0 listed_kinds.now nodes)
-        × (operands.new ≡ paste operands.old 0 listed_operands.now nodes) }
-{
-    for i in 0..nodes {
-        kinds[i] = listed_kinds[i];
-        operands[i] = listed_operands[i];
-    }
 }

@@ -1,42 +1,34 @@
--- `certificate::certify` meets its contract. What is known once job and weights were taken apart is said once, of the context at that point.
-use Rattle.certificate.proofs.Prelude.{refl, read_in_range, answered, taken_apart, lent, range_taken, weights_there, boundable, job_bounded}
-use Rattle.certificate.proofs.Calls.{job_refused, weights_refused, plan_refused, storage_refused, certified, profit_most}
+-- `certificate::certify` meets its contract: job and weights are accepted, then the plan is checked, then the bound is found.
+use Rattle.certificate.proofs.Prelude.{arith, taken, range_taken, record_ready, block_bounded}
+use Rattle.certificate.proofs.Calls.{unaccepted, plan_refused, storage_refused, certified, profit_most}
 use Rattle.certificate.proofs.certify.Goals as goal
 
-pub returns-in_default : goal.returns-in_default
-returns-in_default c = job_refused c.args.block.now c.args.choices c.args.weights.now c.args.kinds.now c.args.operands.now (lent c.args.lengths.now c.args.widths.now c.args.table.now) c.read_job-answer.ensures.answers _ c.in_default.is c.conclude.ensures
+pub returns-in_err-job : goal.returns-in_err-job
+returns-in_err-job c = let e = c.args in
+    unaccepted e.block.now e.choices e.weights.now e.kinds.now e.operands.now _ c.accept.ensures.answers c.in_err-job.was c.from_residual.ensures.1
 
-pub check_weights-accepted-requires : goal.check_weights-accepted-requires
-check_weights-accepted-requires c = let a = answered c.args.block.now c.args.choices c.read_job-answer.ensures.answers c.in-Passed.is in
-    rw a.1 (read_in_range c.args.block.now c.args.choices a.0)
+pub check_nodes-requires : goal.check_nodes-requires
+check_nodes-requires c = let e = c.args in range_taken e.block.now e.choices e.weights.now (taken e.block.now e.choices e.weights.now c.accept.ensures.answers c.in_ok-job.was)
 
-pub returns-in_default-accepted : goal.returns-in_default-accepted
-returns-in_default-accepted c = weights_refused c.args.block.now c.args.choices c.args.weights.now c.args.kinds.now c.args.operands.now (lent c.args.lengths.now c.args.widths.now c.args.table.now) c.read_job-answer.ensures.answers _
-    c.in-Passed.is c.check_weights-accepted.ensures.answers c.in_default-accepted.is c.weights_verdict.ensures c.conclude-in_default-accepted.ensures
+pub returns-in_err-plan : goal.returns-in_err-plan
+returns-in_err-plan c = let e = c.args in
+    let t = taken e.block.now e.choices e.weights.now c.accept.ensures.answers c.in_ok-job.was in
+    plan_refused e.block.now e.choices e.weights.now e.kinds.now e.operands.now _ t c.check_nodes.ensures c.in_err-plan.was c.from_residual-in_err-plan.ensures.1
 
-pub check_nodes-drawn-requires : goal.check_nodes-drawn-requires
-check_nodes-drawn-requires c = range_taken c.args.block.now c.args.choices c.args.weights.now (taken_apart _ _ _ _ c.read_job-answer.ensures.answers c.in-Passed.is c.check_weights-accepted.ensures.answers c.in-Capacity.is)
+pub bound_of_record-requires : goal.bound_of_record-requires
+bound_of_record-requires c = let e = c.args in record_ready e.block.now e.choices e.weights.now (taken e.block.now e.choices e.weights.now c.accept.ensures.answers c.in_ok-job.was)
 
-pub returns-in_default-walked : goal.returns-in_default-walked
-returns-in_default-walked c = plan_refused c.args.block.now c.args.choices c.args.weights.now c.args.kinds.now c.args.operands.now (lent c.args.lengths.now c.args.widths.now c.args.table.now) (taken_apart _ _ _ _ c.read_job-answer.ensures.answers c.in-Passed.is c.check_weights-accepted.ensures.answers c.in-Capacity.is) c.check_nodes-drawn.ensures _ c.in_default-walked.is c.conclude-in_default-walked.ensures
+pub returns-in_err-most : goal.returns-in_err-most
+returns-in_err-most c = let e = c.args in
+    let t = taken e.block.now e.choices e.weights.now c.accept.ensures.answers c.in_ok-job.was in
+    storage_refused e.block.now e.choices e.weights.now e.kinds.now e.operands.now _ t c.check_nodes.ensures c.in_ok-plan.was (block_bounded e.block.now e.choices e.weights.now t c.bound_of_record.ensures.1) c.in_err-most.was c.from_residual-in_err-most.ensures.1
 
-pub list_pieces-count-requires : goal.list_pieces-count-requires
-list_pieces-count-requires c = (range_taken c.args.block.now c.args.choices c.args.weights.now (taken_apart _ _ _ _ c.read_job-answer.ensures.answers c.in-Passed.is c.check_weights-accepted.ensures.answers c.in-Capacity.is), weights_there c.args.block.now c.args.choices c.args.weights.now (taken_apart _ _ _ _ c.read_job-answer.ensures.answers c.in-Passed.is c.check_weights-accepted.ensures.answers c.in-Capacity.is), refl)
-
-pub plate_of-requires : goal.plate_of-requires
-plate_of-requires c = range_taken c.args.block.now c.args.choices c.args.weights.now (taken_apart _ _ _ _ c.read_job-answer.ensures.answers c.in-Passed.is c.check_weights-accepted.ensures.answers c.in-Capacity.is)
-
-pub bound_of_pieces-found-requires : goal.bound_of_pieces-found-requires
-bound_of_pieces-found-requires c = boundable c.args.block.now c.args.choices c.args.weights.now (taken_apart _ _ _ _ c.read_job-answer.ensures.answers c.in-Passed.is c.check_weights-accepted.ensures.answers c.in-Capacity.is) c.plate_of.ensures c.list_pieces-count.ensures refl
-
-pub returns-in_default-found : goal.returns-in_default-found
-returns-in_default-found c = storage_refused c.args.block.now c.args.choices c.args.weights.now c.args.kinds.now c.args.operands.now (lent c.args.lengths.now c.args.widths.now c.args.table.now) (taken_apart _ _ _ _ c.read_job-answer.ensures.answers c.in-Passed.is c.check_weights-accepted.ensures.answers c.in-Capacity.is) c.check_nodes-drawn.ensures c.in-Passed-walked.is
-    (job_bounded c.args.block.now c.args.choices c.args.weights.now (taken_apart _ _ _ _ c.read_job-answer.ensures.answers c.in-Passed.is c.check_weights-accepted.ensures.answers c.in-Capacity.is) c.plate_of.ensures c.list_pieces-count.ensures c.bound_of_pieces-found.ensures) _ c.in_default-found.is c.storage_verdict.ensures c.conclude-in_default-found.ensures
-
-pub conclude-requires-2 : goal.conclude-requires-2
-conclude-requires-2 c = λ p. profit_most c.args.block.now c.args.choices c.args.weights.now c.args.kinds.now c.args.operands.now (lent c.args.lengths.now c.args.widths.now c.args.table.now) (taken_apart _ _ _ _ c.read_job-answer.ensures.answers c.in-Passed.is c.check_weights-accepted.ensures.answers c.in-Capacity.is) c.check_nodes-drawn.ensures c.in-Passed-walked.is
-    (job_bounded c.args.block.now c.args.choices c.args.weights.now (taken_apart _ _ _ _ c.read_job-answer.ensures.answers c.in-Passed.is c.check_weights-accepted.ensures.answers c.in-Capacity.is) c.plate_of.ensures c.list_pieces-count.ensures c.bound_of_pieces-found.ensures) _ c.in-Answered.is
+pub compare-requires : goal.compare-requires
+compare-requires c = let e = c.args in
+    let t = taken e.block.now e.choices e.weights.now c.accept.ensures.answers c.in_ok-job.was in
+    omega (arith, profit_most e.block.now e.choices e.weights.now e.kinds.now e.operands.now _ t c.check_nodes.ensures c.in_ok-plan.was (block_bounded e.block.now e.choices e.weights.now t c.bound_of_record.ensures.1) c.in_ok-most.was)
 
 pub returns : goal.returns
-returns c = certified c.args.block.now c.args.choices c.args.weights.now c.args.kinds.now c.args.operands.now (lent c.args.lengths.now c.args.widths.now c.args.table.now) (taken_apart _ _ _ _ c.read_job-answer.ensures.answers c.in-Passed.is c.check_weights-accepted.ensures.answers c.in-Capacity.is) c.check_nodes-drawn.ensures c.in-Passed-walked.is
-    (job_bounded c.args.block.now c.args.choices c.args.weights.now (taken_apart _ _ _ _ c.read_job-answer.ensures.answers c.in-Passed.is c.check_weights-accepted.ensures.answers c.in-Capacity.is) c.plate_of.ensures c.list_pieces-count.ensures c.bound_of_pieces-found.ensures) _ c.in-Answered.is c.conclude-2.ensures
+returns c = let e = c.args in
+    let t = taken e.block.now e.choices e.weights.now c.accept.ensures.answers c.in_ok-job.was in
+    certified e.block.now e.choices e.weights.now e.kinds.now e.operands.now _ t c.check_nodes.ensures c.in_ok-plan.was (block_bounded e.block.now e.choices e.weights.now t c.bound_of_record.ensures.1) c.in_ok-most.was c.compare.ensures

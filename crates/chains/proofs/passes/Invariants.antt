@@ -1,8 +1,5 @@
-use Rattle.chains.proofs.Prelude.{◌-◌, ◌≤◌, Repeated}
+use Rattle.chains.proofs.Prelude.{◌≤◌, Repeated}
 use Rattle.chains.proofs.passes.Given as goal
 
 abbrev pub invariant-loop-c : goal.invariant-loop-c
 invariant-loop-c l = (l.c ≤ l.copies) × Repeated l.c l.initial.table l.m l.t l.o l.u l.table
-
-abbrev pub decreases-loop-c : goal.decreases-loop-c
-decreases-loop-c l = l.copies - l.c

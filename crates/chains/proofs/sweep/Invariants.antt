@@ -3,6 +3,3 @@ use Rattle.chains.proofs.sweep.Given as goal
 
 abbrev pub invariant-loop-s : goal.invariant-loop-s
 invariant-loop-s l = (l.lo ≤ l.s) × (l.s ≤ l.hi) × Swept l.initial.table l.m l.t l.s l.hi l.table × (l.same ≡ true → Unmoved l.initial.table l.m l.t l.s l.hi)
-
-abbrev pub decreases-loop-s : goal.decreases-loop-s
-decreases-loop-s l = l.s

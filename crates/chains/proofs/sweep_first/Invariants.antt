@@ -3,6 +3,3 @@ use Rattle.chains.proofs.sweep_first.Given as goal
 
 abbrev pub invariant-loop-s : goal.invariant-loop-s
 invariant-loop-s l = (l.s ≤ l.hi) × (l.most ≡ entry l.initial.table 0 + l.t) × Swept l.initial.table l.m l.t l.s l.hi l.table × (l.same ≡ true → Unmoved l.initial.table l.m l.t l.s l.hi)
-
-abbrev pub decreases-loop-s : goal.decreases-loop-s
-decreases-loop-s l = l.s

@@ -17,10 +17,10 @@ pub bounds-table-a : goal.bounds-table-a
 bounds-table-a c = rw (column c.args.floors.now c.args.cell.sides.width) (there c.requires.0 c.requires.1)
 
 pub returns-then-value-eq0 : goal.returns-then-value-eq0
-returns-then-value-eq0 c = c.choice_of.ensures ∙ none_chosen c.requires.0 c.requires.1 refl (column c.args.floors.now c.args.cell.sides.width) refl c.if-value-eq0.true
+returns-then-value-eq0 c = none_chosen c.requires.0 c.requires.1 refl (column c.args.floors.now c.args.cell.sides.width) refl c.if-value-eq0.true
 
-pub returns-in-Laid : goal.returns-in-Laid
-returns-in-Laid c = c.choice_of-in-Laid.ensures ∙ piece_chosen c.requires.0 c.requires.1 refl (column c.args.floors.now c.args.cell.sides.width) refl c.if-value-eq0.false (sym c.find_piece-alone.ensures ∙ c.in-Laid.is)
+pub returns-in-Some : goal.returns-in-Some
+returns-in-Some c = piece_chosen c.requires.0 c.requires.1 refl (column c.args.floors.now c.args.cell.sides.width) refl c.if-value-eq0.false (sym c.find_piece.ensures ∙ c.in-Some.is)
 
 pub choose_cut-requires : goal.choose_cut-requires
 choose_cut-requires c =
@@ -28,4 +28,4 @@ choose_cut-requires c =
     (ready.0, ready.1, c.requires.0.ordered)
 
 pub returns : goal.returns
-returns c = cut_taken c.requires.0 c.requires.1 refl (column c.args.floors.now c.args.cell.sides.width) refl c.if-value-eq0.false (sym c.find_piece-alone.ensures ∙ c.in_default.is) c.choose_cut.ensures
+returns c = cut_taken c.requires.0 c.requires.1 refl (column c.args.floors.now c.args.cell.sides.width) refl c.if-value-eq0.false (sym c.find_piece.ensures ∙ c.in_default.is) c.choose_cut.ensures

@@ -15,15 +15,15 @@ slice_bounds-rest-start c = omega (arith, c.requires.1.mapped, length-drop 1021 
 pub width_search-across-requires : goal.width_search-across-requires
 width_search-across-requires c = omega (arith, c.requires.1.remainders 0 (omega arith) 0 (omega arith))
 
-pub find_cut-width_cut-requires : goal.find_cut-width_cut-requires
-find_cut-width_cut-requires c = (rw (rest_part 1021 c.args.floors.now, c.width_search-across.ensures) c.requires.1, c.requires.2)
+pub find_cut-requires-2 : goal.find_cut-requires-2
+find_cut-requires-2 c = (rw (rest_part 1021 c.args.floors.now, c.width_search-across.ensures) c.requires.1, c.requires.2)
 
-pub returns-in-At-width_cut : goal.returns-in-At-width_cut
-returns-in-At-width_cut c =
-    let across = rw (rest_part 1021 c.args.floors.now, c.width_search-across.ensures) at c.find_cut-width_cut.ensures in
-    c.choice_of-in-At-width_cut.ensures ∙ width_out (sym (rw c.length_search-along.ensures at c.find_cut-length_cut.ensures) ∙ c.in_default.is) (sym across ∙ c.in-At-width_cut.is)
+pub returns-in-Some-find_cut : goal.returns-in-Some-find_cut
+returns-in-Some-find_cut c =
+    let across = rw (rest_part 1021 c.args.floors.now, c.width_search-across.ensures) at c.find_cut-2.ensures in
+    width_out (sym (rw c.length_search-along.ensures at c.find_cut.ensures) ∙ c.in_default.is) (sym across ∙ c.in-Some-find_cut.is)
 
 pub returns : goal.returns
 returns c =
-    let across = rw (rest_part 1021 c.args.floors.now, c.width_search-across.ensures) at c.find_cut-width_cut.ensures in
-    c.choice_of-2.ensures ∙ waste_out (sym (rw c.length_search-along.ensures at c.find_cut-length_cut.ensures) ∙ c.in_default.is) (sym across ∙ c.in_default-width_cut.is)
+    let across = rw (rest_part 1021 c.args.floors.now, c.width_search-across.ensures) at c.find_cut-2.ensures in
+    waste_out (sym (rw c.length_search-along.ensures at c.find_cut.ensures) ∙ c.in_default.is) (sym across ∙ c.in_default-find_cut.is)

@@ -1,5 +1,5 @@
 -- `idle::idle_cut` meets its contract: before node k - 1 is read, the verdict and the trees are those of the nodes from k on.
-use Rattle.idle.proofs.Prelude.{◌∙◌, ap, ◌+◌, ◌-◌, arith, IdleCut, next, refuse_when}
+use Rattle.idle.proofs.Prelude.{◌∙◌, ap, ◌+◌, ◌-◌, arith, IdleCut, refuse_when}
 use Rattle.idle.proofs.Scan.{begins, few, goes_on}
 use Rattle.idle.proofs.idle_cut.Goals as goal
 
@@ -11,4 +11,4 @@ pieceless_from-pieceless-requires c = let s = few c.loop-k.invariant in omega (a
 
 pub loop-k-preserved : goal.loop-k-preserved
 loop-k-preserved c = let l = c.loop-k in
-    goes_on l.invariant (omega (arith, c.loop-k-test)) c.decode-node.ensures (c.decide-verdict.ensures ∙ ap (λ b. next (refuse_when b (IdleCut (c.args.first + (l.k - 1)))) l.verdict) c.is_idle-idle.ensures) c.pieceless_from-pieceless.ensures
+    goes_on l.invariant (omega (arith, c.loop-k-test)) c.decode-node.ensures c.and-verdict.ensures (c.refuse_if.ensures ∙ ap (λ b. refuse_when b (IdleCut (c.args.first + (l.k - 1)))) c.is_idle-idle.ensures) c.pieceless_from-pieceless.ensures

@@ -4,4 +4,4 @@ use Rattle.job.proofs.read_record.Goals as goal
 
 pub returns : goal.returns
 unfolding record_of
-returns c = simp (c.read_prices-prices.ensures, c.read_unpriced-job.ensures, c.read_u16-n.ensures, c.sizes_end-h.ensures.0)
+returns c = simp (c.read_prices.ensures, c.read_unpriced.ensures, c.read_u16-n.ensures, c.sizes_end-h.ensures.0)

@@ -10,7 +10,7 @@ add_kind-requires c = let p = c.requires in
     let plate = c.true_plate-plate.ensures in
     let real = c.true_span-real.ensures in
     let shape = c.model_span-shape.ensures in
-    kind_fits a.model a.sizes a.d p.0 p.1 turn.i c.loop-i-test.true turn.table turn.invariant.2
+    kind_fits a.model a.sizes a.d p.0 p.1 turn.i c.loop-i-test.true turn.table turn.invariant.1
     (told_upright a.model a.sizes a.d turn.i real shape plate c.way_of-upright.ensures)
     (told_turned a.model a.sizes a.d turn.i real shape plate c.turned_way-turned.ensures)
 
@@ -21,8 +21,7 @@ loop-i-preserved c = let a = c.args in
     let real = c.true_span-real.ensures in
     let shape = c.model_span-shape.ensures in
     let added = c.add_kind.ensures in (
-      omega (arith, c.loop-i-test.true),
-      added.long ∙ turn.invariant.1,
+      added.long ∙ turn.invariant.0,
       least_more (true_job (job_of a.model) a.sizes) (job_of a.model) a.d turn.i _ turn.table _ (omega arith) refl (told_upright a.model a.sizes a.d turn.i real shape plate c.way_of-upright.ensures)
-          (told_turned a.model a.sizes a.d turn.i real shape plate c.turned_way-turned.ensures) turn.invariant.2 added,
+          (told_turned a.model a.sizes a.d turn.i real shape plate c.turned_way-turned.ensures) turn.invariant.1 added,
     )

@@ -1,7 +1,8 @@
 -- `planner_c::planner_check_plan_block` meets its contract: stopped, or the block check's outcome.
+use Rattle.planner_c.proofs.Prelude.{sym, ◌∙◌}
 use Rattle.planner_c.proofs.Rule.{met}
 use Rattle.planner_c.proofs.planner_check_plan_block.Goals as goal
 
 pub returns : goal.returns
 returns c = let a = c.args in
-    met 69 a.choices a.answer.now c.early-stop.ensures c.if-stop-gt0.false _ (rw c.choices_of-c.ensures at c.check_plan_block-a.ensures) c.put_plan.ensures
+    met 69 a.choices a.answer.now (sym c.start.ensures ∙ c.in-Ok.is) _ c.check_plan_block-a.ensures c.put_answer.ensures

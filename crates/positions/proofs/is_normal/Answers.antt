@@ -1,13 +1,16 @@
--- `positions::is_normal` meets its contract. The invariant: none of the first i sides leads to x from a marked position.
-use Rattle.positions.proofs.Prelude.{sym, arith}
-use Rattle.positions.proofs.Sums.{sum_zero, sum_found, sum_missing}
+-- `positions::is_normal` meets its contract.
+use Rattle.std.proofs.Common.{rules, tests, arith}
+use Rattle.std.proofs.lemmas.Iterator.{cases_from_any, YieldsList-from_slice}
+use Rattle.positions.proofs.Prelude.{sym}
+use Rattle.positions.proofs.Sums.{sum_zero, scanned, Leads, Misses}
 use Rattle.positions.proofs.is_normal.Goals as goal
 
 pub returns-then-x-eq0 : goal.returns-then-x-eq0
 returns-then-x-eq0 c = rw c.if-x-eq0.true (sym (sum_zero _))
 
-pub returns-then-marks-x : goal.returns-then-marks-x
-returns-then-marks-x c = sym (sum_found _ _ _ c.args.marks.now c.requires.positive c.requires.marked c.loop-i.i (omega arith) (omega arith) c.if-marks-x.true)
-
-pub returns : goal.returns
-returns c = sym (sum_missing _ _ _ c.args.marks.now c.requires.positive c.requires.marked (omega arith) (λ i l. c.loop-i.invariant.1 i (omega arith)))
+pub returns-else-x-eq0 : goal.returns-else-x-eq0
+returns-else-x-eq0 c =
+    let marks = c.args.marks.now in
+    let x = c.args.x in
+    let found = cases_from_any _ _ c.any.result (Leads marks x) (Misses marks x) c.any.ensures.ran (YieldsList-from_slice c.args.fit.now cc) (λ s q k. search (rules, tests)) (λ s q k. search (rules, tests)) in
+    scanned c.args.fit.now x marks c.requires.positive c.requires.marked c.any.result found (omega arith)

@@ -5,18 +5,16 @@ use Rattle.printer.proofs.Judging.{nodes_there, says_plan}
 use Rattle.printer.proofs.judge_plan.Goals as goal
 
 pub slice_bounds-keeps_demands-end : goal.slice_bounds-keeps_demands-end
-slice_bounds-keeps_demands-end c = (nodes_there _ _ _ _ _ _ c.write_plan-answer.ensures c.in-Written.is).0
+slice_bounds-keeps_demands-end c = (nodes_there _ _ _ _ _ _ c.write_plan.ensures c.in_ok-report.was).0
 
-pub slice_bounds-keeps_demands-end-in-Written : goal.slice_bounds-keeps_demands-end-in-Written
-slice_bounds-keeps_demands-end-in-Written c =
-    sym (length-take-le c.in-Written.report.nodes _ (nodes_there _ _ _ _ _ _ c.write_plan-answer.ensures c.in-Written.is).0)
+pub slice_bounds-keeps_demands-end-2 : goal.slice_bounds-keeps_demands-end-2
+slice_bounds-keeps_demands-end-2 c = sym (length-take-le c.in_ok-report.report.nodes _ (nodes_there _ _ _ _ _ _ c.write_plan.ensures c.in_ok-report.was).0)
 
-pub slice_bounds-keeps_demands-end-in-Written-2 : goal.slice_bounds-keeps_demands-end-in-Written-2
-slice_bounds-keeps_demands-end-in-Written-2 c = (nodes_there _ _ _ _ _ _ c.write_plan-answer.ensures c.in-Written.is).1
+pub slice_bounds-keeps_demands-end-3 : goal.slice_bounds-keeps_demands-end-3
+slice_bounds-keeps_demands-end-3 c = (nodes_there _ _ _ _ _ _ c.write_plan.ensures c.in_ok-report.was).1
 
-pub slice_bounds-keeps_demands-end-in-Written-3 : goal.slice_bounds-keeps_demands-end-in-Written-3
-slice_bounds-keeps_demands-end-in-Written-3 c =
-    sym (length-take-le c.in-Written.report.nodes _ (nodes_there _ _ _ _ _ _ c.write_plan-answer.ensures c.in-Written.is).1)
+pub slice_bounds-keeps_demands-end-4 : goal.slice_bounds-keeps_demands-end-4
+slice_bounds-keeps_demands-end-4 c = sym (length-take-le c.in_ok-report.report.nodes _ (nodes_there _ _ _ _ _ _ c.write_plan.ensures c.in_ok-report.was).1)
 
-pub returns-in-Written : goal.returns-in-Written
-returns-in-Written c = says_plan _ _ _ _ _ _ c.write_plan-answer.ensures c.in-Written.is c.keeps_demands-best.ensures
+pub returns : goal.returns
+returns c = says_plan _ _ _ _ _ _ c.write_plan.ensures c.in_ok-report.was c.keeps_demands-best.ensures

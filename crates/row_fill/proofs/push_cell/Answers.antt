@@ -7,4 +7,4 @@ pub returns-then-v-before : goal.returns-then-v-before
 returns-then-v-before c = let a = c.args in cell_flat a.x a.least a.side a.before _ (omega arith) (omega arith)
 
 pub returns : goal.returns
-returns c = let a = c.args in cell_rises a.x a.least a.side a.before _ _ (omega arith) (rw c.smaller.ensures at c.push.ensures)
+returns c = let a = c.args in cell_rises a.x a.least a.side a.before _ _ (omega arith) (rw c.min.ensures at c.push.ensures)

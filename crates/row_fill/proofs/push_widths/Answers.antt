@@ -7,13 +7,13 @@ pub push_cell-requires : goal.push_cell-requires
 push_cell-requires c = let given = c.requires in
     let laid = given.laid in
     let l = c.loop-b in
-    let level = c.level in
+    let level = c.set_run in
     let x = c.entry-x.ensures.0 in
-    let last = c.entry.ensures.0 in
+    let last = c.entry-past.ensures.0 in
     record {
-      some = omega (arith, c.entry-in-loop-b.ensures.0, laid.entries.rise 0 1 (omega arith) (omega arith));
+      some = omega (arith, c.entry.ensures.0, laid.entries.rise 0 1 (omega arith) (omega arith));
       within = omega (arith, x, laid.entries.within l.b (omega arith));
-      units = omega (arith, level.auto.unit, l.invariant.3);
+      units = omega (arith, level.auto.table, l.invariant.3);
       final_low = units_small laid.entries (omega arith) (omega arith) x last refl l.invariant.4 level.ensures laid.side_low given.units_low l.invariant.5;
       capped = units_capped laid.entries (omega arith) (omega arith) x last refl l.invariant.4 level.ensures laid.side_low given.units_low l.invariant.5;
     }
@@ -22,15 +22,15 @@ pub loop-b-preserved : goal.loop-b-preserved
 loop-b-preserved c = let given = c.requires in
     let laid = given.laid in
     let l = c.loop-b in
-    let level = c.level in
+    let level = c.set_run in
     let push = c.push_cell in
     let x = c.entry-x.ensures.0 in
-    let last = c.entry.ensures.0 in
-    let least = c.entry-in-loop-b.ensures.0 in (
+    let last = c.entry-past.ensures.0 in
+    let least = c.entry.ensures.0 in (
       omega arith,
       omega arith,
       simp length-set l.invariant.2,
-      push.auto.unit ∙ level.auto.unit ∙ l.invariant.3,
+      push.auto.unit ∙ level.auto.table ∙ l.invariant.3,
       widening_more laid.entries (omega arith) (omega arith) x last refl l.invariant.4 level.ensures laid.side_low given.units_low l.invariant.5 least push.ensures (omega (arith, l.invariant.2)),
       pushed_capped laid.entries (omega arith) (omega arith) x last refl l.invariant.4 level.ensures laid.side_low given.units_low l.invariant.5 least push.ensures,
     )

@@ -3,19 +3,11 @@ use Rattle.sizes.proofs.Prelude.{arith}
 use Rattle.sizes.proofs.Read.{counted, sizes_stop, both_pass}
 use Rattle.sizes.proofs.read_true_job.Goals as goal
 
-pub read_sizes-measured-requires : goal.read_sizes-measured-requires
-read_sizes-measured-requires c = let a = c.args in
-    let n = counted a.block.now a.choices a.sizes.now c.read_job-read.ensures.answers c.in-Passed.is in
-    omega (arith, n.0, n.1)
+pub read_sizes-requires : goal.read_sizes-requires
+read_sizes-requires c = omega (arith, counted c.args.block.now c.args.choices c.args.sizes.now c.read_job.ensures.answers c.in_ok-model.was)
 
-pub returns-in_default-ranges : goal.returns-in_default-ranges
-returns-in_default-ranges c = let a = c.args in
-    let e = c.read_job-read.ensures.answers in
-    let p = c.in-Passed.is in
-    sizes_stop a.block.now a.choices a.sizes.now e p (counted a.block.now a.choices a.sizes.now e p).0 c.read_sizes-measured.ensures c.in_default-ranges.is c.refuse_true-in_default-ranges.ensures
+pub returns-in_err-sizes : goal.returns-in_err-sizes
+returns-in_err-sizes c = sizes_stop c.args.block.now c.args.choices c.args.sizes.now c.read_job.ensures.answers c.in_ok-model.was c.read_sizes.ensures c.in_err-sizes.was c.from_residual-in_err-sizes.ensures.1
 
 pub returns : goal.returns
-returns c = let a = c.args in
-    let e = c.read_job-read.ensures.answers in
-    let p = c.in-Passed.is in
-    both_pass a.block.now a.choices a.sizes.now e p (counted a.block.now a.choices a.sizes.now e p).0 c.read_sizes-measured.ensures c.in-Passed-ranges.is
+returns c = both_pass c.args.block.now c.args.choices c.args.sizes.now c.read_job.ensures.answers c.in_ok-model.was c.read_sizes.ensures c.in_ok-sizes.was

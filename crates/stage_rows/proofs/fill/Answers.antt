@@ -17,7 +17,7 @@ overflow_mul-source c = let given = c.requires in
     let l = c.loop-below.invariant in
     let same = l.same ∙ c.fill_uncut.auto.table in
     let hb = c.loop-below-test.true in
-    omega (arith, all_few given, stage_end given l same hb, source_before given l same hb c.fill_lengths.ensures c.length_number.ensures)
+    omega (arith, all_few given, stage_end given l same hb, source_before given l same hb c.fill_lengths.ensures c.saturating_sub.ensures)
 
 pub overflow_add-at-in-loop-below : goal.overflow_add-at-in-loop-below
 overflow_add-at-in-loop-below c = let given = c.requires in let l = c.loop-below.invariant in omega (arith, all_few given, stage_end given l (l.same ∙ c.fill_uncut.auto.table) c.loop-below-test.true)
@@ -25,13 +25,13 @@ overflow_add-at-in-loop-below c = let given = c.requires in let l = c.loop-below
 pub fill_widths-requires : goal.fill_widths-requires
 fill_widths-requires c = let l = c.loop-below.invariant in
     let made = c.fill_lengths in
-    widths_lent c.requires l (l.same ∙ c.fill_uncut.auto.table) c.loop-below-test.true made.ensures c.length_number.ensures made.auto.table
+    widths_lent c.requires l (l.same ∙ c.fill_uncut.auto.table) c.loop-below-test.true made.ensures c.saturating_sub.ensures made.auto.table
 
 pub loop-below-preserved : goal.loop-below-preserved
 loop-below-preserved c = let l = c.loop-below.invariant in
     let made = c.fill_lengths in
     let wide = c.fill_widths in
-    staging_more c.requires l (l.same ∙ c.fill_uncut.auto.table) c.loop-below-test.true made.ensures c.length_number.ensures wide.ensures (wide.auto.table ∙ made.auto.table)
+    staging_more c.requires l (l.same ∙ c.fill_uncut.auto.table) c.loop-below-test.true made.ensures c.saturating_sub.ensures wide.ensures (wide.auto.table ∙ made.auto.table)
 
 pub returns : goal.returns
 returns c = let uncut = c.fill_uncut in staged_filled c.requires c.loop-below.invariant (omega (arith, c.loop-below-test.false)) uncut.ensures uncut.auto.table

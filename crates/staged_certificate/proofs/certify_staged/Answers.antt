@@ -1,40 +1,56 @@
--- `staged_certificate::certify_staged` meets its contract. What is known once job, weights and limit passed, and once the bound answered, is
-use Rattle.staged_certificate.proofs.Prelude.{refl, sym, ◌∙◌, taken, refused_both, limit_inside, lent, range_taken, weights_there, stageable, job_staged}
-use Rattle.staged_certificate.proofs.Calls.{job_refused, limit_refused, plan_refused, storage_refused, certified, profit_most}
+-- `staged_certificate::certify_staged` meets its contract: job and weights are accepted, then the limit and the plan are checked, then the
+-- staged bound is found.
+use Rattle.staged_certificate.proofs.Prelude.{refl, taken, limited, limit_passed, limit_inside, range_taken, weights_there, stageable, job_staged}
+use Rattle.staged_certificate.proofs.Calls.{unaccepted, limit_refused, plan_refused, storage_refused, certified, profit_most}
 use Rattle.staged_certificate.proofs.certify_staged.Goals as goal
 
-pub returns-in_default : goal.returns-in_default
-returns-in_default c = job_refused c.args.block.now c.args.choices c.args.weights.now c.args.limit c.args.kinds.now c.args.operands.now ((lent c.args.lengths.now c.args.widths.now c.args.table.now))
-    (refused_both c.args.block.now c.args.choices c.args.weights.now c.accept-accepted.ensures.answers c.in_default.is) c.in_default.is c.conclude.ensures
+pub returns-in_err-job : goal.returns-in_err-job
+returns-in_err-job c = let e = c.args in
+    unaccepted e.block.now e.choices e.weights.now e.limit e.kinds.now e.operands.now _ c.accept.ensures.answers c.in_err-job.was c.from_residual.ensures.1
 
-pub returns-then-limit_outside : goal.returns-then-limit_outside
-returns-then-limit_outside c = limit_refused c.args.block.now c.args.choices c.args.weights.now c.args.limit c.args.kinds.now c.args.operands.now ((lent c.args.lengths.now c.args.widths.now c.args.table.now))
-    (taken c.args.block.now c.args.choices c.args.weights.now c.accept-accepted.ensures.answers c.in-Passed.is).accepted (sym c.limit_outside.ensures ∙ c.if-limit_outside.true)
+pub returns-in_err-refuse_if : goal.returns-in_err-refuse_if
+returns-in_err-refuse_if c = let e = c.args in
+    let t = taken e.block.now e.choices e.weights.now c.accept.ensures.answers c.in_ok-job.was in
+    limit_refused e.block.now e.choices e.weights.now e.limit e.kinds.now e.operands.now _ t (limited e.limit c.limit_outside.ensures c.refuse_if.ensures) c.in_err-refuse_if.was c.from_residual-in_err-refuse_if.ensures.1
 
-pub check_within-drawn-requires : goal.check_within-drawn-requires
-check_within-drawn-requires c = let l = limit_inside c.args.limit ((sym c.limit_outside.ensures ∙ c.if-limit_outside.false)) in
-    (range_taken c.args.block.now c.args.choices c.args.weights.now ((taken _ _ _ c.accept-accepted.ensures.answers c.in-Passed.is)), l.0, l.1)
+pub check_within-requires : goal.check_within-requires
+check_within-requires c = let e = c.args in
+    let l = limit_inside e.limit (limit_passed e.limit c.limit_outside.ensures c.refuse_if.ensures c.in_ok-refuse_if.was) in
+    (range_taken e.block.now e.choices e.weights.now (taken e.block.now e.choices e.weights.now c.accept.ensures.answers c.in_ok-job.was), l.0, l.1)
 
-pub returns-in_default-walked : goal.returns-in_default-walked
-returns-in_default-walked c = plan_refused c.args.block.now c.args.choices c.args.weights.now c.args.limit c.args.kinds.now c.args.operands.now ((lent c.args.lengths.now c.args.widths.now c.args.table.now)) ((taken _ _ _ c.accept-accepted.ensures.answers c.in-Passed.is)) ((sym c.limit_outside.ensures ∙ c.if-limit_outside.false)) c.check_within-drawn.ensures c.in_default-walked.is c.conclude-in_default-walked.ensures
+pub returns-in_err-plan : goal.returns-in_err-plan
+returns-in_err-plan c = let e = c.args in
+    let t = taken e.block.now e.choices e.weights.now c.accept.ensures.answers c.in_ok-job.was in
+    plan_refused e.block.now e.choices e.weights.now e.limit e.kinds.now e.operands.now _ t (limited e.limit c.limit_outside.ensures c.refuse_if.ensures) c.in_ok-refuse_if.was c.check_within.ensures
+    c.in_err-plan.was c.from_residual-in_err-plan.ensures.1
 
 pub list_pieces-count-requires : goal.list_pieces-count-requires
-list_pieces-count-requires c = (range_taken c.args.block.now c.args.choices c.args.weights.now ((taken _ _ _ c.accept-accepted.ensures.answers c.in-Passed.is)), weights_there c.args.block.now c.args.choices c.args.weights.now ((taken _ _ _ c.accept-accepted.ensures.answers c.in-Passed.is)), refl)
+list_pieces-count-requires c = let e = c.args in
+    let t = taken e.block.now e.choices e.weights.now c.accept.ensures.answers c.in_ok-job.was in
+    (range_taken e.block.now e.choices e.weights.now t, weights_there e.block.now e.choices e.weights.now t, refl)
 
 pub plate_of-requires : goal.plate_of-requires
-plate_of-requires c = range_taken c.args.block.now c.args.choices c.args.weights.now ((taken _ _ _ c.accept-accepted.ensures.answers c.in-Passed.is))
+plate_of-requires c = let e = c.args in range_taken e.block.now e.choices e.weights.now (taken e.block.now e.choices e.weights.now c.accept.ensures.answers c.in_ok-job.was)
 
-pub bound_of_pieces-found-requires : goal.bound_of_pieces-found-requires
-bound_of_pieces-found-requires c = (stageable c.args.block.now c.args.choices c.args.weights.now ((taken _ _ _ c.accept-accepted.ensures.answers c.in-Passed.is)) c.args.limit ((sym c.limit_outside.ensures ∙ c.if-limit_outside.false)) c.plate_of.ensures c.list_pieces-count.ensures, refl)
+pub bound_of_pieces-requires : goal.bound_of_pieces-requires
+bound_of_pieces-requires c = let e = c.args in
+    let t = taken e.block.now e.choices e.weights.now c.accept.ensures.answers c.in_ok-job.was in
+    (stageable e.block.now e.choices e.weights.now t e.limit (limit_passed e.limit c.limit_outside.ensures c.refuse_if.ensures c.in_ok-refuse_if.was) c.plate_of.ensures c.list_pieces-count.ensures, refl)
 
-pub returns-in_default-found : goal.returns-in_default-found
-returns-in_default-found c = storage_refused c.args.block.now c.args.choices c.args.weights.now c.args.limit c.args.kinds.now c.args.operands.now ((lent c.args.lengths.now c.args.widths.now c.args.table.now)) ((taken _ _ _ c.accept-accepted.ensures.answers c.in-Passed.is)) ((sym c.limit_outside.ensures ∙ c.if-limit_outside.false)) c.check_within-drawn.ensures c.in-Passed-walked.is ((job_staged c.args.block.now c.args.choices c.args.weights.now ((taken _ _ _ c.accept-accepted.ensures.answers c.in-Passed.is)) c.args.limit c.plate_of.ensures c.list_pieces-count.ensures c.bound_of_pieces-found.ensures))
-    c.in_default-found.is c.storage_verdict.ensures c.conclude-in_default-found.ensures
+pub returns-in_err-most : goal.returns-in_err-most
+returns-in_err-most c = let e = c.args in
+    let t = taken e.block.now e.choices e.weights.now c.accept.ensures.answers c.in_ok-job.was in
+    storage_refused e.block.now e.choices e.weights.now e.limit e.kinds.now e.operands.now _ t (limited e.limit c.limit_outside.ensures c.refuse_if.ensures) c.in_ok-refuse_if.was c.check_within.ensures c.in_ok-plan.was
+    (job_staged e.block.now e.choices e.weights.now t e.limit c.plate_of.ensures c.list_pieces-count.ensures c.bound_of_pieces.ensures) c.in_err-most.was c.from_residual-in_err-most.ensures.1
 
-pub conclude-requires-2 : goal.conclude-requires-2
-conclude-requires-2 c = λ p. profit_most c.args.block.now c.args.choices c.args.weights.now c.args.limit c.args.kinds.now c.args.operands.now ((lent c.args.lengths.now c.args.widths.now c.args.table.now)) ((taken _ _ _ c.accept-accepted.ensures.answers c.in-Passed.is)) ((sym c.limit_outside.ensures ∙ c.if-limit_outside.false)) c.check_within-drawn.ensures c.in-Passed-walked.is ((job_staged c.args.block.now c.args.choices c.args.weights.now ((taken _ _ _ c.accept-accepted.ensures.answers c.in-Passed.is)) c.args.limit c.plate_of.ensures c.list_pieces-count.ensures c.bound_of_pieces-found.ensures))
-    c.in-Answered.is
+pub compare-requires : goal.compare-requires
+compare-requires c = let e = c.args in
+    let t = taken e.block.now e.choices e.weights.now c.accept.ensures.answers c.in_ok-job.was in
+    profit_most e.block.now e.choices e.weights.now e.limit e.kinds.now e.operands.now _ t (limited e.limit c.limit_outside.ensures c.refuse_if.ensures) c.in_ok-refuse_if.was c.check_within.ensures c.in_ok-plan.was
+    (job_staged e.block.now e.choices e.weights.now t e.limit c.plate_of.ensures c.list_pieces-count.ensures c.bound_of_pieces.ensures) c.in_ok-most.was
 
 pub returns : goal.returns
-returns c = certified c.args.block.now c.args.choices c.args.weights.now c.args.limit c.args.kinds.now c.args.operands.now ((lent c.args.lengths.now c.args.widths.now c.args.table.now)) ((taken _ _ _ c.accept-accepted.ensures.answers c.in-Passed.is)) ((sym c.limit_outside.ensures ∙ c.if-limit_outside.false)) c.check_within-drawn.ensures c.in-Passed-walked.is ((job_staged c.args.block.now c.args.choices c.args.weights.now ((taken _ _ _ c.accept-accepted.ensures.answers c.in-Passed.is)) c.args.limit c.plate_of.ensures c.list_pieces-count.ensures c.bound_of_pieces-found.ensures))
-    c.in-Answered.is c.conclude-2.ensures
+returns c = let e = c.args in
+    let t = taken e.block.now e.choices e.weights.now c.accept.ensures.answers c.in_ok-job.was in
+    certified e.block.now e.choices e.weights.now e.limit e.kinds.now e.operands.now _ t (limited e.limit c.limit_outside.ensures c.refuse_if.ensures) c.in_ok-refuse_if.was c.check_within.ensures c.in_ok-plan.was
+    (job_staged e.block.now e.choices e.weights.now t e.limit c.plate_of.ensures c.list_pieces-count.ensures c.bound_of_pieces.ensures) c.in_ok-most.was c.compare.ensures

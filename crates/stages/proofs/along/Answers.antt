@@ -1,19 +1,20 @@
 -- `stages::along` meets its contract: each turn of the loop passes one node that keeps the direction.
-use Rattle.stages.proofs.Prelude.{refl, arith}
-use Rattle.stages.proofs.Steps.{passes, along_ends, along_lacks, along_past, along_changes}
+use Rattle.stages.proofs.Prelude.{refl, passed_least}
+use Rattle.refusal.proofs.Results.{handed}
+use Rattle.stages.proofs.Steps.{passes, along_ends, along_lacks, along_refused, along_changes}
 use Rattle.stages.proofs.along.Goals as goal
 
-pub returns-then-kinds-k : goal.returns-then-kinds-k
-returns-then-kinds-k c = along_lacks _ c.loop-s.invariant c.cut_kind-own.ensures c.loop-s-test.true c.if-kinds-k.true
-
-pub returns-then-left-lt2 : goal.returns-then-left-lt2
-returns-then-left-lt2 c = along_past _ c.loop-s.invariant c.cut_kind-own.ensures c.loop-s-test.true _ c.if-kinds-k.false refl c.if-kind-own.true (omega arith)
+pub returns-in_err-refuse_if : goal.returns-in_err-refuse_if
+returns-in_err-refuse_if c = along_refused _ c.loop-s.invariant c.cut_kind-own.ensures c.loop-s-test.true _ c.if-s-kinds.true refl c.if-kind-own.true c.refuse_if.ensures c.in_err-refuse_if.was (handed _ c.from_residual.ensures.1)
 
 pub returns-then-kind-own : goal.returns-then-kind-own
-returns-then-kind-own c = along_changes _ c.loop-s.invariant c.cut_kind-own.ensures c.loop-s-test.true _ c.if-kinds-k.false refl c.if-kind-own.true c.if-left-lt2.false
+returns-then-kind-own c = along_changes _ c.loop-s.invariant c.cut_kind-own.ensures c.loop-s-test.true _ c.if-s-kinds.true refl c.if-kind-own.true (passed_least _ _ _ c.refuse_if.ensures c.in_ok-refuse_if.was)
 
 pub loop-s-preserved : goal.loop-s-preserved
-loop-s-preserved c = rw c.pass-s.ensures (passes c.loop-s.invariant c.loop-s-test.true _ c.if-kinds-k.false refl c.if-kind-own.false c.requires.3)
+loop-s-preserved c = rw c.pass-s.ensures (passes c.loop-s.invariant c.loop-s-test.true _ c.if-s-kinds.true refl c.if-kind-own.false c.requires.3)
 
-pub returns : goal.returns
-returns c = along_ends _ c.loop-s.invariant c.cut_kind-own.ensures c.loop-s-test.false
+pub returns-else-s-kinds : goal.returns-else-s-kinds
+returns-else-s-kinds c = along_lacks _ c.loop-s.invariant c.cut_kind-own.ensures c.loop-s-test.true c.if-s-kinds.false
+
+pub returns-after-loop-s : goal.returns-after-loop-s
+returns-after-loop-s c = along_ends _ c.loop-s.invariant c.cut_kind-own.ensures c.loop-s-test.false

@@ -1,74 +1,44 @@
 -- `two_bound::weigh_two` meets its contract: 8, 24, 9 of either list, 25, or both capacities.
-use Rattle.two_bound.proofs.Prelude.{sym, ◌∙◌, ap₂, ◌+◌, ◌≤◌, mul-le-mul, arith, job_of, pair_count}
-use Rattle.two_bound.proofs.Weights.{too_heavy, light, no_pass, first_count, second_count, first_heavy, second_heavy, product_heavy, both_light}
+use Rattle.two_bound.proofs.Prelude.{◌∙◌, ap₂, ◌+◌, ◌≤◌, mul-le-mul, arith, job_of, Ok}
+use Rattle.refusal.proofs.Results.{refused_answer, given_answer}
+use Rattle.two_bound.proofs.Weights.{first_refused, second_refused, first_heavy, second_heavy, both_weighed, product_decides}
 use Rattle.two_bound.proofs.weigh_two.Goals as goal
 
-pub returns-then-first-count : goal.returns-then-first-count
-returns-then-first-count c = let e = c.args in
-    let J = job_of e.job in
-    let first = e.first.now in
-    let second = e.second.now in record {
-      verdict = c.unweighed.ensures ∙ first_count J first second c.if-first-count.true;
-      capacities = no_pass c.unweighed.ensures;
-    }
+pub returns-in_err-refuse_if : goal.returns-in_err-refuse_if
+returns-in_err-refuse_if c = let e = c.args in
+    refused_answer _ _ _ (first_refused (job_of e.job) e.first.now e.second.now c.refuse_if.ensures c.in_err-refuse_if.was) c.from_residual.ensures.1
 
-pub returns-then-second-count : goal.returns-then-second-count
-returns-then-second-count c = let e = c.args in
-    let J = job_of e.job in
-    let first = e.first.now in
-    let second = e.second.now in record {
-      verdict = c.unweighed-then-second-count.ensures ∙ second_count J first second c.if-first-count.false c.if-second-count.true;
-      capacities = no_pass c.unweighed-then-second-count.ensures;
-    }
+pub returns-in_err-refuse_if-2 : goal.returns-in_err-refuse_if-2
+returns-in_err-refuse_if-2 c = let e = c.args in
+    refused_answer _ _ _ (second_refused (job_of e.job) e.first.now e.second.now c.refuse_if.ensures c.in_ok-refuse_if.was c.refuse_if-2.ensures c.in_err-refuse_if-2.was)
+    c.from_residual-in_err-refuse_if-2.ensures.1
 
-pub returns-in_default : goal.returns-in_default
-returns-in_default c = let e = c.args in
-    let J = job_of e.job in
-    let first = e.first.now in
-    let second = e.second.now in record {
-      verdict = c.unweighed-in_default.ensures ∙ first_heavy J first second c.if-first-count.false c.if-second-count.false (too_heavy J first c.if-first-count.false (sym c.check_weights-one.ensures.answers ∙ c.in_default.is));
-      capacities = no_pass c.unweighed-in_default.ensures;
-    }
+pub returns-in_err-q : goal.returns-in_err-q
+returns-in_err-q c = let e = c.args in
+    refused_answer _ _ _ (first_heavy (job_of e.job) e.first.now e.second.now c.refuse_if.ensures c.in_ok-refuse_if.was c.refuse_if-2.ensures c.in_ok-refuse_if-2.was
+    c.check_weights.ensures.answers c.in_err-q.was) c.from_residual-in_err-q.ensures.1
 
-pub returns-in_default-other : goal.returns-in_default-other
-returns-in_default-other c = let e = c.args in
-    let J = job_of e.job in
-    let first = e.first.now in
-    let second = e.second.now in
-    let one = light J first (sym c.check_weights-one.ensures.answers ∙ c.in-Capacity.is) in record {
-      verdict = c.unweighed-in_default-other.ensures ∙ second_heavy J first second c.if-first-count.false c.if-second-count.false one.1 (too_heavy J second c.if-second-count.false (sym c.check_weights-other.ensures.answers ∙ c.in_default-other.is));
-      capacities = no_pass c.unweighed-in_default-other.ensures;
-    }
+pub returns-in_err-s : goal.returns-in_err-s
+returns-in_err-s c = let e = c.args in
+    refused_answer _ _ _ (second_heavy (job_of e.job) e.first.now e.second.now c.refuse_if.ensures c.in_ok-refuse_if.was c.refuse_if-2.ensures c.in_ok-refuse_if-2.was
+    c.check_weights.ensures.answers c.in_ok-q.was c.check_weights-2.ensures.answers c.in_err-s.was) c.from_residual-in_err-s.ensures.1
 
 pub overflow_mul-q : goal.overflow_mul-q
 overflow_mul-q c = let e = c.args in
-    let J = job_of e.job in
-    let first = e.first.now in
-    let second = e.second.now in
-    let one = light J first (sym c.check_weights-one.ensures.answers ∙ c.in-Capacity.is) in
-    let two = light J second (sym c.check_weights-other.ensures.answers ∙ c.in-Capacity-other.is) in
-    let f : c.in-Capacity.q + 1 ≤ 4096 = omega (arith, one) in
-    let g : c.in-Capacity-other.s + 1 ≤ 4096 = omega (arith, two) in
+    let w = both_weighed (job_of e.job) e.first.now e.second.now c.refuse_if.ensures c.in_ok-refuse_if.was c.refuse_if-2.ensures c.in_ok-refuse_if-2.was
+    c.check_weights.ensures.answers c.in_ok-q.was c.check_weights-2.ensures.answers c.in_ok-s.was in
+    let f : c.in_ok-q.q + 1 ≤ 4096 = omega (arith, w) in
+    let g : c.in_ok-s.s + 1 ≤ 4096 = omega (arith, w) in
     omega (arith, mul-le-mul f g)
 
-pub returns-then-q-s-gt65536 : goal.returns-then-q-s-gt65536
-returns-then-q-s-gt65536 c = let e = c.args in
-    let J = job_of e.job in
-    let first = e.first.now in
-    let second = e.second.now in
-    let one = light J first (sym c.check_weights-one.ensures.answers ∙ c.in-Capacity.is) in
-    let two = light J second (sym c.check_weights-other.ensures.answers ∙ c.in-Capacity-other.is) in record {
-      verdict = c.unweighed-then-q-s-gt65536.ensures ∙ product_heavy J first second c.if-first-count.false c.if-second-count.false one.1 two.1 (omega (arith, c.if-q-s-gt65536.true, ap₂ pair_count one.0 two.0));
-      capacities = no_pass c.unweighed-then-q-s-gt65536.ensures;
-    }
+pub returns-in_err-refuse_if-3 : goal.returns-in_err-refuse_if-3
+returns-in_err-refuse_if-3 c = let e = c.args in
+    refused_answer _ _ _ (product_decides (job_of e.job) e.first.now e.second.now c.refuse_if.ensures c.in_ok-refuse_if.was c.refuse_if-2.ensures c.in_ok-refuse_if-2.was
+    c.check_weights.ensures.answers c.in_ok-q.was c.check_weights-2.ensures.answers c.in_ok-s.was c.refuse_if-3.ensures ∙ c.in_err-refuse_if-3.was) c.from_residual-in_err-refuse_if-3.ensures.1
 
 pub returns : goal.returns
 returns c = let e = c.args in
-    let J = job_of e.job in
-    let first = e.first.now in
-    let second = e.second.now in
-    let one = light J first (sym c.check_weights-one.ensures.answers ∙ c.in-Capacity.is) in
-    let two = light J second (sym c.check_weights-other.ensures.answers ∙ c.in-Capacity-other.is) in record {
-      verdict = both_light J first second c.if-first-count.false c.if-second-count.false one.1 two.1 (omega (arith, c.if-q-s-gt65536.false, ap₂ pair_count one.0 two.0));
-      capacities = λ p. (one.0, two.0);
-    }
+    let w = both_weighed (job_of e.job) e.first.now e.second.now c.refuse_if.ensures c.in_ok-refuse_if.was c.refuse_if-2.ensures c.in_ok-refuse_if-2.was
+    c.check_weights.ensures.answers c.in_ok-q.was c.check_weights-2.ensures.answers c.in_ok-s.was in
+    given_answer _ _ (product_decides (job_of e.job) e.first.now e.second.now c.refuse_if.ensures c.in_ok-refuse_if.was c.refuse_if-2.ensures c.in_ok-refuse_if-2.was
+    c.check_weights.ensures.answers c.in_ok-q.was c.check_weights-2.ensures.answers c.in_ok-s.was c.refuse_if-3.ensures ∙ c.in_ok-refuse_if-3.was) (ap₂ (λ q s. Ok (record { first = q; second = s })) w.0.0 w.0.1)

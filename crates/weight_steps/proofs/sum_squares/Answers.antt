@@ -9,4 +9,5 @@ loop-i-init c = (search rules, sum_none (λ k. distance (get_or c.args.copies.no
 
 pub loop-i-preserved : goal.loop-i-preserved
 loop-i-preserved c = let f : ℕ → ℕ = λ k. distance (get_or c.args.copies.now k 0) (get_or c.args.demands.now k 0) * distance (get_or c.args.copies.now k 0) (get_or c.args.demands.now k 0) in
-    (search rules, ap₂ ◌+◌ c.loop-i.invariant.1 (ap₂ ◌*◌ c.apart-d.ensures.0 c.apart-d.ensures.0) ∙ sum_more f c.loop-i.i, omega (arith, c.loop-i.invariant.2, product_most c.apart-d.result c.apart-d.result 65535 65535 c.apart-d.ensures.1 c.apart-d.ensures.1))
+    let e = c.from-d.ensures ∙ c.abs_diff.ensures in
+    (search rules, ap₂ ◌+◌ c.loop-i.invariant.1 (ap₂ ◌*◌ e e) ∙ sum_more f c.loop-i.i, omega (arith, c.loop-i.invariant.2, product_most c.from-d.result c.from-d.result 65535 65535 (omega arith) (omega arith)))

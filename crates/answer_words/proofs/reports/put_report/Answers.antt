@@ -1,10 +1,14 @@
--- `answer_words::reports::put_report` meets its contract: four stores, the copies, and the sawdust behind them.
-use Rattle.answer_words.proofs.Prelude.{◌≡◌, [], ◌∷◌, arith, length, length-append, plan_values}
-use Rattle.answer_words.proofs.Words.{report_over}
+-- `put_report` meets its contract.
+use Rattle.answer_words.proofs.Prelude.{◌∙◌, ap, ap₂, [], ◌∷◌, ◌++◌, length-append, set, sets, arith}
+use Rattle.answer_words.proofs.Stored.{behind_over, over_more}
 use Rattle.answer_words.proofs.reports.put_report.Goals as goal
 
 pub returns : goal.returns
-returns c = let r = c.args.r in
-    let e = c.put_copies.ensures in
-    let all : length (plan_values r) ≡ 69 = omega (arith, e.1, length-append r.copies (r.sawdust ∷ [])) in
-    (report_over (r.profit ∷ r.pieces ∷ r.waste ∷ r.trim ∷ []) r.copies c.args.answer.now 68 r.sawdust c.put_four.ensures e.0 c.put_word.ensures (omega (arith, e.1)) c.requires, all)
+returns c =
+    let r = c.args.r.now in
+    let front = r.profit ∷ r.pieces ∷ r.waste ∷ r.trim ∷ [] in
+    let n = c.copy_words.ensures.1 in
+    let e = behind_over front r.copies c.args.answer.now _ (omega (arith, n, c.requires)) (c.put_behind.ensures ∙ ap₂ (λ xs ys. sets xs 4 ys) c.put_words.ensures c.copy_words.ensures.0) in (
+      ap (λ xs. set xs 68 r.sawdust) e ∙ over_more (front ++ r.copies) c.args.answer.now 68 r.sawdust (omega (arith, n)) (omega (arith, c.requires)),
+      omega (arith, n, length-append r.copies (r.sawdust ∷ [])),
+    )

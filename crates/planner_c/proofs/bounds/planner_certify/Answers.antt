@@ -1,7 +1,13 @@
 -- `planner_c::bounds::planner_certify` meets its contract: stopped, or the certificate's outcome.
-use Rattle.planner_c.proofs.Rule.{met}
+use Rattle.planner_c.proofs.Prelude.{sym, ◌∙◌, arith}
+use Rattle.planner_c.proofs.Rule.{enough, met}
+use Rattle.planner_c.proofs.Certified.{gap_within}
 use Rattle.planner_c.proofs.bounds.planner_certify.Goals as goal
 
 pub returns : goal.returns
 returns c = let a = c.args in
-    met 3 a.choices a.answer.now c.early-stop.ensures c.if-stop-gt0.false _ (rw c.choices_of-c.ensures at c.certify-a.ensures) c.put_certificate.ensures
+    met 3 a.choices a.answer.now (sym c.start.ensures ∙ c.in-Ok.is) _ c.certify-a.ensures c.put_answer.ensures
+
+pub put_answer-requires : goal.put_answer-requires
+put_answer-requires c = let n = enough 3 c.args.choices c.args.answer.now (sym c.start.ensures ∙ c.in-Ok.is) in
+    (omega (arith, n), n, λ x e. gap_within c.certify-a.ensures e)

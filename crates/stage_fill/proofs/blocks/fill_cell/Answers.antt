@@ -1,6 +1,7 @@
 -- `stage_fill::blocks::fill_cell` meets its contract: each kind of cell is one law.
-use Rattle.stage_fill.proofs.Prelude.{arith, refl, ap, inl, inr, second_floors, direction_of}
+use Rattle.stage_fill.proofs.Prelude.{arith, refl, inl, inr, second_floors}
 use Rattle.stage_fill.proofs.Numbers.{cell_room, few_cells, few_blocks, few_words, zero_done, uncut_asks, uncut_done, few_source, few_source_words, length_line, length_fits, length_asks, length_done, width_line, width_fits, width_asks, width_done}
+use Rattle.stage_fill.proofs.blocks.fill_cell.Goals.{then-a-eq0-via-then-a-eq0, then-a-eq0-via-else-a-eq0+then-b-eq0}
 use Rattle.stage_fill.proofs.blocks.fill_cell.Goals as goal
 
 pub overflow_mul-cells : goal.overflow_mul-cells
@@ -19,49 +20,46 @@ pub set_run-requires : goal.set_run-requires
 set_run-requires c = rw c.number.ensures (cell_room c.requires.0 c.requires.1 c.requires.2)
 
 pub returns-then-a-eq0 : goal.returns-then-a-eq0
-returns-then-a-eq0 c = zero_done c.requires.0 c.requires.1 c.requires.2 c.number.result c.number.ensures _ _ refl refl (inl c.if-a-eq0.true) c.set_run.ensures
-
-pub set_run-requires-then-b-eq0 : goal.set_run-requires-then-b-eq0
-set_run-requires-then-b-eq0 c = rw c.number.ensures (cell_room c.requires.0 c.requires.1 c.requires.2)
-
-pub returns-then-b-eq0 : goal.returns-then-b-eq0
-returns-then-b-eq0 c = zero_done c.requires.0 c.requires.1 c.requires.2 c.number.result c.number.ensures _ _ refl refl (inr c.if-b-eq0.true) c.set_run-then-b-eq0.ensures
+returns-then-a-eq0 c = zero_done c.requires.0 c.requires.1 c.requires.2 c.number.result c.number.ensures _ _ refl refl (elim c.then-a-eq0.branch [
+  | then-a-eq0-via-then-a-eq0 w ↦ inl w.if-a-eq0.true
+  | then-a-eq0-via-else-a-eq0+then-b-eq0 w ↦ inr w.if-b-eq0.true
+]) c.set_run.ensures
 
 pub make_uncut-requires : goal.make_uncut-requires
 make_uncut-requires c = uncut_asks c.requires.0 c.requires.1 c.requires.2 c.number.result c.number.ensures _ _ refl refl c.if-block-eq0.true c.if-a-eq0.false c.if-b-eq0.false c.requires.0.lent.range.kinds
 
 pub returns-then-block-eq0 : goal.returns-then-block-eq0
-returns-then-block-eq0 c = uncut_done c.requires.0 c.requires.1 c.requires.2 c.number.result c.number.ensures _ _ refl refl c.if-block-eq0.true c.if-a-eq0.false c.if-b-eq0.false (rw (c.widen-l.ensures, c.widen-w.ensures) at c.make_uncut.ensures)
+returns-then-block-eq0 c = uncut_done c.requires.0 c.requires.1 c.requires.2 c.number.result c.number.ensures _ _ refl refl c.if-block-eq0.true c.if-a-eq0.false c.if-b-eq0.false (rw (c.from-l.ensures, c.from-w.ensures) at c.make_uncut.ensures)
 
 pub overflow_mul-source : goal.overflow_mul-source
-overflow_mul-source c = omega (arith, few_source c.requires.0 c.requires.1 c.requires.2 c.number.result c.number.ensures _ _ refl refl c.source_number.result c.source_number.ensures (omega (arith, c.if-block-eq0.false)) c.if-a-eq0.false c.if-b-eq0.false)
+overflow_mul-source c = omega (arith, few_source c.requires.0 c.requires.1 c.requires.2 c.number.result c.number.ensures _ _ refl refl c.number-2.result (rw c.other.ensures at c.number-2.ensures) (omega (arith, c.if-block-eq0.false)) c.if-a-eq0.false c.if-b-eq0.false)
 
 pub overflow_add-source : goal.overflow_add-source
-overflow_add-source c = omega (arith, few_source c.requires.0 c.requires.1 c.requires.2 c.number.result c.number.ensures _ _ refl refl c.source_number.result c.source_number.ensures (omega (arith, c.if-block-eq0.false)) c.if-a-eq0.false c.if-b-eq0.false)
+overflow_add-source c = omega (arith, few_source c.requires.0 c.requires.1 c.requires.2 c.number.result c.number.ensures _ _ refl refl c.number-2.result (rw c.other.ensures at c.number-2.ensures) (omega (arith, c.if-block-eq0.false)) c.if-a-eq0.false c.if-b-eq0.false)
 
 pub overflow_mul-source-2 : goal.overflow_mul-source-2
-overflow_mul-source-2 c = omega (arith, few_source_words c.requires.0 c.requires.1 c.requires.2 c.number.result c.number.ensures _ _ refl refl c.source_number.result c.source_number.ensures (omega (arith, c.if-block-eq0.false)) c.if-a-eq0.false c.if-b-eq0.false)
+overflow_mul-source-2 c = omega (arith, few_source_words c.requires.0 c.requires.1 c.requires.2 c.number.result c.number.ensures _ _ refl refl c.number-2.result (rw c.other.ensures at c.number-2.ensures) (omega (arith, c.if-block-eq0.false)) c.if-a-eq0.false c.if-b-eq0.false)
 
 pub line_to-line-requires : goal.line_to-line-requires
-line_to-line-requires c = width_line c.requires.0 c.requires.1 c.requires.2 c.number.result c.number.ensures _ _ refl refl c.source_number.result c.source_number.ensures (omega (arith, c.if-block-eq0.false)) c.if-a-eq0.false c.if-b-eq0.false (ap direction_of c.if-width_first.true)
+line_to-line-requires c = length_line c.requires.0 c.requires.1 c.requires.2 c.number.result c.number.ensures _ _ refl refl c.number-2.result (rw c.other.ensures at c.number-2.ensures) (omega (arith, c.if-block-eq0.false)) c.if-a-eq0.false c.if-b-eq0.false c.in-Length.is
 
-pub overflow_sub-above : goal.overflow_sub-above
-overflow_sub-above c = width_fits c.requires.0 c.requires.1 c.requires.2 c.number.result c.number.ensures _ _ refl refl c.source_number.result c.source_number.ensures (omega (arith, c.if-block-eq0.false)) c.if-a-eq0.false c.if-b-eq0.false (ap direction_of c.if-width_first.true)
+pub overflow_sub-narrower : goal.overflow_sub-narrower
+overflow_sub-narrower c = length_fits c.requires.0 c.requires.1 c.requires.2 c.number.result c.number.ensures _ _ refl refl c.number-2.result (rw c.other.ensures at c.number-2.ensures) (omega (arith, c.if-block-eq0.false)) c.if-a-eq0.false c.if-b-eq0.false c.in-Length.is
 
 pub make_later-requires : goal.make_later-requires
-make_later-requires c = rw (second_floors c.args.floors.now) (width_asks c.requires.0 c.requires.1 c.requires.2 c.number.result c.number.ensures _ _ refl refl c.source_number.result c.source_number.ensures (omega (arith, c.if-block-eq0.false)) c.if-a-eq0.false c.if-b-eq0.false (ap direction_of c.if-width_first.true) c.line_to-line.ensures)
+make_later-requires c = length_asks c.requires.0 c.requires.1 c.requires.2 c.number.result c.number.ensures _ _ refl refl c.number-2.result (rw c.other.ensures at c.number-2.ensures) (omega (arith, c.if-block-eq0.false)) c.if-a-eq0.false c.if-b-eq0.false c.in-Length.is c.line_to-line.ensures
 
-pub returns-then-width_first : goal.returns-then-width_first
-returns-then-width_first c = width_done c.requires.0 c.requires.1 c.requires.2 c.number.result c.number.ensures _ _ refl refl c.source_number.result c.source_number.ensures (omega (arith, c.if-block-eq0.false)) c.if-a-eq0.false c.if-b-eq0.false (ap direction_of c.if-width_first.true) c.line_to-line.ensures (rw (second_floors c.args.floors.now) at c.make_later.ensures)
+pub returns-in-Length : goal.returns-in-Length
+returns-in-Length c = length_done c.requires.0 c.requires.1 c.requires.2 c.number.result c.number.ensures _ _ refl refl c.number-2.result (rw c.other.ensures at c.number-2.ensures) (omega (arith, c.if-block-eq0.false)) c.if-a-eq0.false c.if-b-eq0.false c.in-Length.is c.line_to-line.ensures c.make_later.ensures
 
-pub line_to-line-requires-2 : goal.line_to-line-requires-2
-line_to-line-requires-2 c = length_line c.requires.0 c.requires.1 c.requires.2 c.number.result c.number.ensures _ _ refl refl c.source_number.result c.source_number.ensures (omega (arith, c.if-block-eq0.false)) c.if-a-eq0.false c.if-b-eq0.false (ap direction_of c.if-width_first.false)
+pub line_to-line-requires-in-Width : goal.line_to-line-requires-in-Width
+line_to-line-requires-in-Width c = width_line c.requires.0 c.requires.1 c.requires.2 c.number.result c.number.ensures _ _ refl refl c.number-2.result (rw c.other.ensures at c.number-2.ensures) (omega (arith, c.if-block-eq0.false)) c.if-a-eq0.false c.if-b-eq0.false c.in-Width.is
 
-pub overflow_sub-at : goal.overflow_sub-at
-overflow_sub-at c = length_fits c.requires.0 c.requires.1 c.requires.2 c.number.result c.number.ensures _ _ refl refl c.source_number.result c.source_number.ensures (omega (arith, c.if-block-eq0.false)) c.if-a-eq0.false c.if-b-eq0.false (ap direction_of c.if-width_first.false)
+pub overflow_sub-shorter : goal.overflow_sub-shorter
+overflow_sub-shorter c = width_fits c.requires.0 c.requires.1 c.requires.2 c.number.result c.number.ensures _ _ refl refl c.number-2.result (rw c.other.ensures at c.number-2.ensures) (omega (arith, c.if-block-eq0.false)) c.if-a-eq0.false c.if-b-eq0.false c.in-Width.is
 
-pub make_later-requires-2 : goal.make_later-requires-2
-make_later-requires-2 c = length_asks c.requires.0 c.requires.1 c.requires.2 c.number.result c.number.ensures _ _ refl refl c.source_number.result c.source_number.ensures (omega (arith, c.if-block-eq0.false)) c.if-a-eq0.false c.if-b-eq0.false (ap direction_of c.if-width_first.false) c.line_to-line-2.ensures
+pub make_later-requires-in-Width : goal.make_later-requires-in-Width
+make_later-requires-in-Width c = rw (second_floors c.args.floors.now) (width_asks c.requires.0 c.requires.1 c.requires.2 c.number.result c.number.ensures _ _ refl refl c.number-2.result (rw c.other.ensures at c.number-2.ensures) (omega (arith, c.if-block-eq0.false)) c.if-a-eq0.false c.if-b-eq0.false c.in-Width.is c.line_to-line-in-Width.ensures)
 
-pub returns : goal.returns
-returns c = length_done c.requires.0 c.requires.1 c.requires.2 c.number.result c.number.ensures _ _ refl refl c.source_number.result c.source_number.ensures (omega (arith, c.if-block-eq0.false)) c.if-a-eq0.false c.if-b-eq0.false (ap direction_of c.if-width_first.false) c.line_to-line-2.ensures c.make_later-2.ensures
+pub returns-in-Width : goal.returns-in-Width
+returns-in-Width c = width_done c.requires.0 c.requires.1 c.requires.2 c.number.result c.number.ensures _ _ refl refl c.number-2.result (rw c.other.ensures at c.number-2.ensures) (omega (arith, c.if-block-eq0.false)) c.if-a-eq0.false c.if-b-eq0.false c.in-Width.is c.line_to-line-in-Width.ensures (rw (second_floors c.args.floors.now) at c.make_later-in-Width.ensures)

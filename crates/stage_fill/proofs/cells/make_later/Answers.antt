@@ -47,5 +47,5 @@ returns c = let p = c.requires in
       taken = rw (one_order (c.args.words ∷ [])) at taken.ensures.0;
       topped = topped_then _ _ _ _ _ _ _ _ first.ensures.1 (topped_then _ _ _ _ _ _ _ _ second.ensures.1 (topped_then _ _ _ _ _ _ _ _ third.ensures.1 taken.ensures.1));
       done = c.finish.ensures;
-      flat_is = c.further.ensures;
+      flat_is = c.max.ensures;
     }

@@ -50,5 +50,5 @@ returns c = let started = c.begin in
       placed = rw (c.requires.one_digit, one_order (c.args.shape.words ∷ [])) at placed.ensures.0;
       topped = topped_then _ _ _ _ _ _ _ _ first.ensures.1 (topped_then _ _ _ _ _ _ _ _ second.ensures.1 placed.ensures.1);
       done = c.finish.ensures;
-      flat_is = c.further.ensures;
+      flat_is = c.max.ensures;
     }

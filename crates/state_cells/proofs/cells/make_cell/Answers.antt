@@ -8,8 +8,8 @@ pub make_states-requires : goal.make_states-requires
 make_states-requires c = spot_whole c.requires
 
 pub make_states-flat-requires : goal.make_states-flat-requires
-make_states-flat-requires c = let reach = reach_is c.args.shape.words c.args.place.flat c.reached-reach.ensures (omega arith) in
-    rw (c.first_states.ensures, reach.0) (spot_part c.requires reach.1)
+make_states-flat-requires c = let reach = reach_is c.args.shape.words c.args.place.flat c.min-reach.ensures (omega arith) in
+    rw reach.0 (spot_part c.requires reach.1)
 
 pub overflow_add-at : goal.overflow_add-at
 overflow_add-at c = omega (arith, room (spot_whole c.requires), c.make_states-flat.auto.table)
@@ -27,7 +27,7 @@ pub set_run-requires : goal.set_run-requires
 set_run-requires c = omega (arith, room (spot_whole c.requires), c.make_states-flat.auto.table)
 
 pub returns : goal.returns
-returns c = let reach = reach_is c.args.shape.words c.args.place.flat c.reached-reach.ensures (omega arith) in
-    let made = rw c.first_states.ensures at c.make_states-flat.ensures in
+returns c = let reach = reach_is c.args.shape.words c.args.place.flat c.min-reach.ensures (omega arith) in
+    let made = c.make_states-flat.ensures in
     let last = c.figure-last.ensures in
     spot_made c.requires reach.1 reach.0 last.1 last.0 c.set_run.ensures made.0 made.1 made.2

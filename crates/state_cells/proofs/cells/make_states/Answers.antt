@@ -76,7 +76,7 @@ returns c = let spot = c.requires in
     let started = c.begin.ensures in
     let first = c.inherit-top.ensures.0 in
     let second = c.inherit-top-2.ensures.0 in
-    let kinds = rw (c.widen-l.ensures, c.widen-w.ensures) at c.place_pieces-top.ensures.0 in
+    let kinds = rw (c.from-l.ensures, c.from-w.ensures) at c.place_pieces-top.ensures.0 in
     let by_length = rw c.length_line-along.ensures at c.cut-top.ensures.0 in
     let by_width = rw (c.width_line-across.ensures, second_floors c.args.floors.now) at c.cut-top-2.ensures.0 in
     let done = c.finish.ensures in

@@ -4,6 +4,3 @@ use Rattle.states.proofs.raise.below.Given as goal
 
 abbrev pub invariant-loop-e : goal.invariant-loop-e
 invariant-loop-e l = (l.e ≤ l.d) × (under l.blocks l.d l.t l.s ≡ under l.blocks l.e l.low l.high)
-
-abbrev pub decreases-loop-e : goal.decreases-loop-e
-decreases-loop-e l = l.e

@@ -6,9 +6,6 @@ use Rattle.writer.proofs.Waiting.{none_left, whole_nodes, plate_waits, plan_left
 use Rattle.writer.proofs.Listed.{kinds_begin, operands_begin, one_listed, all_listed}
 use Rattle.writer.proofs.nodes.list_nodes.Goals as goal
 
-pub put_cell-requires : goal.put_cell-requires
-put_cell-requires c = (omega arith, refl)
-
 pub loop-depth-init : goal.loop-depth-init
 loop-depth-init c = let e = c.args in
     let le = under e.blocks.now e.sawing.d in
@@ -21,14 +18,8 @@ loop-depth-init c = let e = c.args in
     let l = plan_left le kerf size pieces h (replicate 6120 0) refl p in
     (plate_waits le kerf size pieces h (replicate 6120 0) refl p, omega (arith, count_left le kerf size pieces h (replicate 6120 0) refl p), refl, refl, kinds_begin (sawn_plan e.sawing e.blocks.now pieces) l e.kinds.now, operands_begin (sawn_plan e.sawing e.blocks.now pieces) l e.operands.now)
 
-pub next_node-step-requires : goal.next_node-step-requires
-next_node-step-requires c = (c.requires, c.loop-depth.invariant.0, search rules)
-
 pub overflow_add-nodes : goal.overflow_add-nodes
 overflow_add-nodes c = omega (arith, c.loop-depth.invariant.1, whole_nodes (under c.args.blocks.now c.args.sawing.d) c.args.sawing.kerf c.args.sawing.size c.args.pieces.now (c.requires.0.tabled.in_range, c.requires.0.tabled.order))
-
-pub loop-depth-smaller : goal.loop-depth-smaller
-loop-depth-smaller c = omega (arith, ap length c.next_node-step.ensures.nodes)
 
 pub loop-depth-preserved : goal.loop-depth-preserved
 loop-depth-preserved c = let turn = c.loop-depth in
@@ -42,12 +33,6 @@ loop-depth-preserved c = let turn = c.loop-depth in
       one_listed (λ n. kind_of n) turn.kinds turn.nodes step.nodes k turn.invariant.4,
       one_listed (λ n. operand_of n) turn.operands turn.nodes step.nodes o turn.invariant.5,
     )
-
-pub shape_of-kinds : goal.shape_of-kinds
-shape_of-kinds c = c.loop-depth.invariant.2
-
-pub shape_of-operands : goal.shape_of-operands
-shape_of-operands c = c.loop-depth.invariant.3
 
 pub returns : goal.returns
 returns c = let e = c.args in

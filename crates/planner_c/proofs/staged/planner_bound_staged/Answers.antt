@@ -1,0 +1,8 @@
+-- `planner_c::staged::planner_bound_staged` meets its contract: stopped, or the bound call's outcome.
+use Rattle.planner_c.proofs.Prelude.{sym, ◌∙◌}
+use Rattle.planner_c.proofs.Rule.{met}
+use Rattle.planner_c.proofs.staged.planner_bound_staged.Goals as goal
+
+pub returns : goal.returns
+returns c = let a = c.args in
+    met 4 a.choices a.answer.now (sym c.start.ensures ∙ c.in-Ok.is) _ c.bound_staged-a.ensures c.put_answer.ensures
