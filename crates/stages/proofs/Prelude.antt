@@ -30,11 +30,11 @@ pub use Rattle.refusal.specs.Refusals.{Answer, Checked, answer_by, next, passed,
 unfoldable pub use Rattle.refusal.specs.Refusals.{first_refusal}
 pub use Rattle.stages.specs.Stages.{limit_check, path_checks}
 unfoldable pub use Rattle.stages.specs.Stages.{above_checks, node_paths}
-pub use Rattle.stages.specs.Walks.{Along, Reached, Resumed, StagesOf, Stands, Waiting, Walked, Walking, cut_kind, ended_as, nodes_left, pass, staged_as, walk_checks}
+pub use Rattle.stages.specs.Walks.{Along, Reached, Resumed, StagesOf, Stands, Waiting, NamesNode, Walked, Walking, cut_kind, ended_as, nodes_left, pass, staged_as, walk_checks}
 unfoldable pub use Rattle.stages.specs.Walks.{checks_all, count_all, kinds_all, most_below, stage_checks}
 pub use Rattle.stages.specs.declared.Reach.{Reach}
 pub use Rattle.stages.specs.declared.Step.{Step}
 pub use Rattle.stages.specs.declared.Step.TheVariants.{Change, End}
 pub use Rattle.stages.specs.declared.Walk.{Walk}
 pub use Rattle.std.proofs.Common.{Ok, Err}
-pub use Rattle.std.specs.Result.{ForOk}
+pub use Rattle.std.specs.Result.{ForErr, ForOk}

@@ -1,5 +1,5 @@
 -- The steps of the two walks: what is known while some trees wait, at one node more of each kind, and at the end.
-use Rattle.stages.proofs.Prelude.{◌≡◌, refl, sym, ◌∙◌, ap, true, false, List, [], ◌∷◌, ◌++◌, append_assoc, append-nil, ℕ, ◌+◌, ◌-◌, ◌≤◌, ◌<◌, max, add-one, arith, le-leb, lt-leb, leb, length, drop, get_or, length-append, length-map, drop_of_length-le, drop-cons, drop-drop, drop_at, Direction, Length, Width, Cut, Tree, waste, piece, cut, other, change, stages_below, root, stages, change_same, change_other, preorder, kind_of, node_count, kinds_of, Refusal, ManyStages, Answer, answer_by, next, first_refusal, first_append, next_passed, kinds_cut, count_cut, Walk, path_checks, staged_as, stage_checks, StagesOf, kinds_all, count_all, most_below, checks_all, ended_as, Walked, cut_kind, Waiting, Walking, Ok, Err, ForOk, passed, Checked}
+use Rattle.stages.proofs.Prelude.{◌≡◌, refl, sym, ◌∙◌, ap, subst, true, false, List, [], ◌∷◌, ◌++◌, append_assoc, append-nil, ℕ, ◌+◌, ◌-◌, ◌≤◌, ◌<◌, max, add-one, arith, le-leb, lt-leb, leb, length, drop, get_or, length-append, length-map, drop_of_length-le, drop-cons, drop-drop, drop_at, Direction, Length, Width, Cut, Tree, waste, piece, cut, other, change, stages_below, root, stages, change_same, change_other, preorder, kind_of, node_count, kinds_of, Refusal, ManyStages, Answer, answer_by, next, first_refusal, first_append, next_passed, kinds_cut, count_cut, Walk, path_checks, staged_as, stage_checks, StagesOf, kinds_all, count_all, most_below, checks_all, ended_as, Walked, NamesNode, cut_kind, Waiting, Walking, Ok, Err, ForOk, ForErr, passed, Checked}
 use Rattle.cutting.specs.Pieces as laid
 use Rattle.refusal.proofs.Results.{value_answered, refusal_answered}
 use Rattle.stages.proofs.Place.{by_paths}
@@ -106,6 +106,7 @@ module _ {d : Direction} {ks : List ℕ} {left at n waiting most : ℕ} (w : Wal
   ends h = record {
     trees = λ a b rest e. (let u = w.trees a b rest e in all a b u.us (omega (arith, u.number)) u refl);
     inside = ended_inside;
+    named = λ x e. cc;
   }
     where
       all : (a b : Tree laid.Piece) (us : Trees) → length us ≤ 0 → {rest : List ℕ} (u : Waiting d ks left at n waiting most (a ∷ b ∷ []) rest) → u.us ≡ us
@@ -123,6 +124,7 @@ module _ {d : Direction} {ks : List ℕ} {left at n waiting most : ℕ} (w : Wal
     lacks h = record {
       trees = λ a b rest e. (let u = w.trees a b rest e in none a b u.us rest (omega (arith, u.number)) (sym (drop_of_length-le ks h) ∙ u.kinds));
       inside = ended_inside;
+      named = λ x e. cc;
     }
       where
         none : {A : Type 0} (a b : Tree laid.Piece) (us : Trees) (rest : List ℕ) → 0 < length us → [] ≡ kinds_all us ++ rest → A
@@ -254,13 +256,14 @@ module _ {d : Direction} {ks : List ℕ} {left at n waiting most : ℕ} (w : Wal
 
       -- one that changes it: no stage is left
       pub past : kind ≡ cut_kind (other d) → left ≤ 1 → Walked d ks at left (Err (ManyStages n))
-      past k l = record { trees = λ a b rest e. sym (ap (λ v. ended_as v (at + count_all (a ∷ b ∷ [])) (most_below d (a ∷ b ∷ []))) (none_left (w.trees a b rest e) k l)); inside = λ v e. cc }
+      past k l = record { trees = λ a b rest e. sym (ap (λ v. ended_as v (at + count_all (a ∷ b ∷ [])) (most_below d (a ∷ b ∷ []))) (none_left (w.trees a b rest e) k l)); inside = λ v e. cc; named = λ x e. (n, (let i : ManyStages n ≡ x = cc in sym i)) }
 
       -- its parts pass the limit
       pub stops : kind ≡ cut_kind (other d) → 2 ≤ left → {r : Answer Walk} {x : Refusal} → r ≡ Err x → Walked (other d) ks (n + 1) (left - 1) r → Walked d ks at left (Err x)
-      stops k l is f = record {
+      stops k l {x = x} is f = record {
         trees = λ a b rest e. sym (ap (λ v. ended_as v (at + count_all (a ∷ b ∷ [])) (most_below d (a ∷ b ∷ []))) (parts_past (w.trees a b rest e) k l is f));
         inside = λ v e. cc;
+        named = λ y e. (let i : x ≡ y = cc in subst NamesNode i (f.named x is));
       }
 
       -- its parts are walked
@@ -274,6 +277,10 @@ module _ {d : Direction} {ks : List ℕ} {left at n waiting most : ℕ} (w : Wal
             low = omega (arith, w.low, i.2);
             trees = λ a b rest e. parts_waiting (w.trees a b rest e) k l v f;
           }
+
+-- a refusal that names a node, handed on
+pub named_on : {A B : Type 0} {a : Answer A} {b : Answer B} {x : Refusal} → ForErr a NamesNode → a ≡ Err x → b ≡ Err x → ForErr b NamesNode
+named_on {x = x} f e h y p = let i : x ≡ y = cc in subst NamesNode i (f x e)
 
 -- what the walk of the first cut's parts says of the plan: the cut itself begins the first stage
 abbrev pub answer_of : Answer Walk → Answer ℕ

@@ -1,12 +1,13 @@
 -- What only inner contracts cite: the answer for the kinds of a tree, check 23 as the walks over a plan's kinds count it, and how they end.
 use Rattle.std.specs.Prelude.{◌≡◌, Bool, true, false, List, [], ◌∷◌, ◌++◌, ℕ, ◌+◌, ◌-◌, ◌≤◌, ◌<◌, max, leb, length, drop, get_or, Ok, Err}
-use Rattle.std.specs.Result.{ForOk}
+use Rattle.std.specs.Result.{ForOk, ForErr}
 use Rattle.promises.specs.declared.Direction.{Direction}
 use Rattle.promises.specs.declared.Direction.TheVariants.{Length, Width}
 use Rattle.cutting.specs.Tree.{Tree, waste, piece, cut}
 use Rattle.cutting.specs.Pieces as laid
 use Rattle.cutting.specs.Shares.{other, change, root, stages_below, stages}
 use Rattle.cutting.specs.Preorder.{node_count, kinds_of}
+use Rattle.promises.specs.declared.Refusal.{Refusal}
 use Rattle.promises.specs.declared.Refusal.TheVariants.{ManyStages}
 use Rattle.refusal.specs.Refusals.{Answer, Check, Checked, answer_by, first_refusal}
 use Rattle.stages.specs.Stages.{path_checks}
@@ -58,11 +59,16 @@ checks_all d k n (t ∷ ts) = stage_checks d k n t ++ checks_all d k (n + node_c
 abbrev pub ended_as : Checked → ℕ → ℕ → Answer Walk
 ended_as v n s = answer_by v (record { next = n; stages = s })
 
--- the walk of the two parts of a cut from node `at` on, if they are there; and where it ends in any case
+-- a refusal of check 23, which names a node
+abbrev pub NamesNode : Refusal → Type 0
+NamesNode r = (n : ℕ) × (r ≡ ManyStages n)
+
+-- the walk of the two parts of a cut from node `at` on, if they are there; and where it ends and what refuses it in any case
 pub record Walked (d : Direction) (ks : List ℕ) (at left : ℕ) (r : Answer Walk) : Type 0 where
   pub trees : (a b : Tree laid.Piece) (rest : List ℕ) → drop at ks ≡ kinds_all (a ∷ b ∷ []) ++ rest
       → r ≡ ended_as (first_refusal (checks_all d left at (a ∷ b ∷ []))) (at + count_all (a ∷ b ∷ [])) (most_below d (a ∷ b ∷ []))
   pub inside : ForOk r (λ w. (at ≤ w.next) × (w.next ≤ length ks) × (w.stages ≤ left))
+  pub named : ForErr r NamesNode
 
 -- the kind of a cut
 abbrev pub cut_kind : Direction → ℕ

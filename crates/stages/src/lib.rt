@@ -7,7 +7,8 @@ ghost use Rattle.promises.specs.declared.Direction.TheVariants.{Length, Width};
 ghost use Rattle.cutting.specs.Shares.{other};
 ghost use Rattle.cutting.specs.Limits.{most_nodes, most_limit};
 ghost use Rattle.job.specs.Block.{outside};
-ghost use Rattle.stages.specs.Walks.{cut_kind, pass, Along, Resumed, Stands, Walked, StagesOf};
+ghost use Rattle.std.specs.Result.{ForErr};
+ghost use Rattle.stages.specs.Walks.{cut_kind, pass, Along, Resumed, Stands, Walked, StagesOf, NamesNode};
 
 use promises::{Direction, Refusal};
 use refusal::refuse_if;
@@ -157,7 +158,8 @@ fn width_stage(kinds: &[u8], at: u16, left: u8) -> Result<Walk, Refusal>
 // The first cut begins the first stage.
 pub fn stages_within(kinds: &[u8], limit: u8) -> Result<u8, Refusal>
     requires { (1 ≤ length kinds.now) × (length kinds.now ≤ most_nodes) × (1 ≤ limit) × (limit ≤ most_limit) }
-    ensures { StagesOf kinds.now limit result }
+    ensures stages { StagesOf kinds.now limit result }
+    ensures named { ForErr result NamesNode }
 {
     let parts = match kinds[0] {
         2 => length_stage(kinds, 1, limit)?,

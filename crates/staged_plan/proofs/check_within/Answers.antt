@@ -9,7 +9,7 @@ stages_within-requires c = let g = some_nodes (job_of c.args.job) c.requires.0.k
 
 pub returns-in_err-stages : goal.returns-in_err-stages
 returns-in_err-stages c = is_past (job_of c.args.job) c.requires.0.kinds.1 c.args.limit c.args.kinds.now c.args.operands.now c.check_nodes.ensures c.in_ok-report.was
-    c.stages_within.ensures c.in_err-stages.was (handed _ c.from_residual-in_err-stages.ensures.1)
+    c.stages_within.ensures.stages c.in_err-stages.was (handed _ c.from_residual-in_err-stages.ensures.1)
 
 pub returns : goal.returns
-returns c = is_within (job_of c.args.job) c.requires.0.kinds.1 c.args.limit c.args.kinds.now c.args.operands.now c.check_nodes.ensures c.in_ok-report.was c.stages_within.ensures c.in_ok-stages.was
+returns c = is_within (job_of c.args.job) c.requires.0.kinds.1 c.args.limit c.args.kinds.now c.args.operands.now c.check_nodes.ensures c.in_ok-report.was c.stages_within.ensures.stages c.in_ok-stages.was
