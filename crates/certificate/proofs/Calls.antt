@@ -1,5 +1,5 @@
 -- What certify promises, from the verdicts of the job, the weights and the plan and from the bound of an accepted job.
-use Rattle.certificate.proofs.Prelude.{◌≡◌, refl, sym, ◌∙◌, ap, ap₂, List, ℕ, ◌≤◌, arith, bound_of, first_refusal, Refusal, Choices, JobRecord, job_of, block_job, weight_in, acceptance_of, Acceptance, accepted_both, Taken, refused_both, plan_answer, Memory, Leaves, memory_checks, wide_job, block_capacity, block_report, Bounded, BoundReport, plan_verdict, certify_verdict, certificate_of, compared, plan_profit, certificate_outcome, CertifyPromises, Certificate, Ok, Err, passed, Checked, Answer, verdict_of, Report, value_answered, refusal_answered, refused_answer, given_answer, before_refuses, before_passes}
+use Rattle.certificate.proofs.Prelude.{◌≡◌, refl, sym, ◌∙◌, ap, ap₂, List, ℕ, ◌≤◌, arith, bound_of, first_refusal, Refusal, Choices, JobRecord, job_of, block_job, weight_in, accept_verdict, accepted_both, Taken, plan_answer, Memory, Leaves, memory_checks, wide_job, block_capacity, block_report, Bounded, BoundReport, plan_verdict, certify_verdict, certificate_of, compared, plan_profit, certificate_outcome, CertifyPromises, Certificate, Ok, Err, passed, Checked, Answer, verdict_of, Report, value_answered, refusal_answered, refused_answer, given_answer, before_refuses, before_passes}
 use Rattle.std.specs.Result.{IsErrAnd}
 use Rattle.certificate.proofs.Comparison.{certificate_says}
 use Rattle.certificate.proofs.Promises.{drawn_most, profit_is, compares, plans_judged, certificates_hold}
@@ -24,8 +24,8 @@ module _ (s : List ℕ) (choices : Choices) (ws kinds operands : List ℕ) (old 
   early e p = promised _ (refused_answer _ _ _ (before_refuses _ _ e) p) (rw e (record { lengths = refl; widths = refl; table = refl }))
 
   -- the job or its weights are refused
-  pub unaccepted : {a : Answer Acceptance} {x : Refusal} {r : Answer Certificate} → a ≡ acceptance_of s choices ws → a ≡ Err x → IsErrAnd r (λ y. y ≡ x) → CertifyPromises s choices ws kinds operands old old r
-  unaccepted e f p = early (before_refuses _ _ (refused_both s choices ws e f)) p
+  pub unaccepted : {x : Refusal} → accept_verdict s choices ws ≡ Err x → CertifyPromises s choices ws kinds operands old old (Err x)
+  unaccepted e = early (before_refuses _ _ e) refl
 
   module _ {j : JobRecord} {q : ℕ} (t : Taken s choices ws j q) {a : Answer Report} (said : a ≡ plan_answer (job_of j) kinds operands) where
     said_is : a ≡ plan_answer (block_job s choices) kinds operands
@@ -35,8 +35,8 @@ module _ (s : List ℕ) (choices : Choices) (ws kinds operands : List ℕ) (old 
     walked = before_passes _ _ t.accepted ∙ ap verdict_of (sym said_is)
 
     -- the plan is refused
-    pub plan_refused : {x : Refusal} {r : Answer Certificate} → a ≡ Err x → IsErrAnd r (λ y. y ≡ x) → CertifyPromises s choices ws kinds operands old old r
-    plan_refused f p = early (walked ∙ ap verdict_of f) p
+    pub plan_refused : {x : Refusal} → a ≡ Err x → CertifyPromises s choices ws kinds operands old old (Err x)
+    plan_refused f = early (walked ∙ ap verdict_of f) refl
 
     module _ {report : Report} (f : a ≡ Ok report) {new : Memory} {floors : List ℕ} {found : Answer BoundReport} (whole : Bounded (wide_job s choices) (weight_in ws) (block_capacity s choices ws) old new floors found) where
       abbrev stored : Checked

@@ -21,12 +21,11 @@ pub use Rattle.cutting.specs.Job.{InRange, Job, bound_of, by_kind, normal_positi
 pub use Rattle.cutting.specs.Lists.{over}
 pub use Rattle.cutting.specs.Promises.{NoneBetter}
 pub use Rattle.job.proofs.Checks.{append_passed, passed_both}
-pub use Rattle.job.proofs.Read.{read_in_range}
-pub use Rattle.job.proofs.Taken.{Taken, refused_both, taken}
+pub use Rattle.job.proofs.Read.{answered, read_in_range, refused}
+pub use Rattle.job.proofs.Taken.{Taken, job_refused, taken_apart, weights_refused}
 pub use Rattle.job.proofs.Weights.{accepted_both, accepted_in_range}
 pub use Rattle.job.specs.Block.{job_checks, job_of}
-pub use Rattle.job.specs.Weights.{acceptance_of, block_job, weight_checks, weight_in}
-pub use Rattle.job.specs.declared.Acceptance.{Acceptance}
+pub use Rattle.job.specs.Weights.{block_job, weight_checks, weight_in}
 pub use Rattle.plan.proofs.Drawn.{drawn_is, plan_is}
 pub use Rattle.plan.proofs.Plans.{plans_checked}
 pub use Rattle.plan.specs.Plan.{plan_answer}

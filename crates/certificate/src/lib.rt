@@ -8,7 +8,6 @@ ghost use Rattle.bound.specs.Bound.{lent};
 ghost use Rattle.certificate.specs.Certificate.{compared};
 ghost use Rattle.certificate.specs.Promises.{CertifyPromises};
 
-use job::Acceptance;
 use promises::{Certificate, Choices, Refusal};
 
 // The certificate of a profit and a bound: best where they are equal, otherwise the gap.
@@ -22,8 +21,8 @@ pub fn compare(profit: u64, bound: u64) -> Certificate
     Certificate::Gap(profit, bound - profit)
 }
 
-// Certifies a plan for a job block and weights: "best" exactly when the checked profit equals the bound, otherwise the gap. The job, the
-// weights, the plan and the storage are checked in the table's order, and the first refusal met is handed on.
+// Certifies a plan for a job block and weights: "best" exactly when the checked profit equals the bound, otherwise the gap. The job's,
+// the weights' and the plan's answers are taken apart in the table's order, then the storage is checked; the first refusal met is handed on.
 pub fn certify(
     block: &[u8],
     choices: Choices,
@@ -37,8 +36,18 @@ pub fn certify(
     ensures { CertifyPromises block.now choices weights.now kinds.now operands.now (lent lengths.old widths.old table.old)
         (lent lengths.new widths.new table.new) result }
 {
-    let Acceptance { job, capacity } = job::accept(block, choices, weights)?;
-    let plan = plan::check_nodes(job, kinds, operands)?;
+    let read = job::read_job(block, choices);
+    let Ok(job) = read else {
+        return Err(read.unwrap_err());
+    };
+    let weighed = job::check_weights(job, weights);
+    let Ok(capacity) = weighed else {
+        return Err(weighed.unwrap_err());
+    };
+    let walked = plan::check_nodes(job, kinds, operands);
+    let Ok(plan) = walked else {
+        return Err(walked.unwrap_err());
+    };
     let most = bound::bound_of_record(job, weights, capacity, lengths, widths, table)?;
     Ok(compare(plan.profit, most.bound))
 }
