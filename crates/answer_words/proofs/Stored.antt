@@ -1,9 +1,5 @@
 -- Values stored in the answer words: one after another, list after list, and at the front.
-use Rattle.answer_words.proofs.Prelude.{◌≡◌, sym, ◌∙◌, ap, ap₂, subst, List, [], ◌∷◌, ◌++◌, ℕ, suc, ◌+◌, ◌≤◌, ◌<◌, arith, length, get_or, set, length-append, sets, over, over_sets, ext_get_or}
-
--- two lists of n numbers that agree at each place
-pub same_entries : (xs ys : List ℕ) (n : ℕ) → length xs ≡ n → length ys ≡ n → ((i : ℕ) → i < n → get_or xs i 0 ≡ get_or ys i 0) → xs ≡ ys
-same_entries xs ys n e f h = ext_get_or 0 xs ys (e ∙ sym f) (λ i l. h i (subst (λ m. i < m) e l))
+use Rattle.answer_words.proofs.Prelude.{◌≡◌, sym, ◌∙◌, ap, ap₂, List, [], ◌∷◌, ◌++◌, ℕ, suc, ◌+◌, ◌≤◌, ◌<◌, add-one, arith, length, get_or, set, take, drop, length-append, sets, sets-eq, paste, paste-suc, take-length, over, over_sets}
 
 -- values stored one list after the other
 pub sets_append : (xs zs old : List ℕ) (i : ℕ) → sets old i (xs ++ zs) ≡ sets (sets old i xs) (i + length xs) zs
@@ -26,3 +22,15 @@ behind_over front entries old new h e =
     e ∙ ap₂ (λ xs i. sets xs i entries) (sym (over_sets front old (omega (arith, h)))) at
     ∙ sym (sets_append front entries old 0)
     ∙ over_sets (front ++ entries) old (omega (arith, h, length-append front entries))
+
+-- a copy with one value more
+pub pasted_more : (old values new : List ℕ) (at i : ℕ) {v : ℕ} → new ≡ paste old at values i → v ≡ get_or values i 0 → at + i < length old → i < length values
+    → set new (at + i) v ≡ paste old at values (i + 1)
+pasted_more old values new at i p e h l = ap₂ (λ r x. set r (at + i) x) p e ∙ paste-suc old at values i 0 h l ∙ ap (λ k. paste old at values k) (sym (add-one i))
+
+-- a copy of a whole list is a run of its stores
+pub pasted : (old values : List ℕ) (at n : ℕ) → length values ≡ n → at + n ≤ length old → paste old at values n ≡ sets old at values
+pasted old values at n e h =
+    ap (λ k. paste old at values k) (sym e)
+    ∙ ap (λ r. take at old ++ r ++ drop (at + length values) old) (take-length values)
+    ∙ sym (sets-eq values old at (omega arith))

@@ -6,7 +6,6 @@ mod reports;
 
 ghost use Rattle.std.specs.Prelude.{◌≡◌, List, [], ◌∷◌, ℕ, ◌+◌, ◌≤◌, ◌<◌, length, take};
 ghost use Rattle.std.specs.Result.{ForOk, result_unwrap_or};
-ghost use Rattle.std.proofs.lemmas.List.Edits.{sets};
 ghost use Rattle.cutting.specs.Lists.{over};
 ghost use Rattle.refusal.specs.Refusals.{refused_as, outcome_of, by_check, verdict_of};
 ghost use Rattle.answer_words.specs.Words.{Gives};
@@ -36,14 +35,6 @@ fn put_words(values: &[u64], answer: &mut [u64])
     ensures { answer.new ≡ over values.now answer.old }
 {
     answer[..values.len()].copy_from_slice(values);
-}
-
-// Values behind the first ones.
-fn put_behind(values: &[u64], at: usize, answer: &mut [u64])
-    requires { at + length values.now ≤ length answer.old }
-    ensures { answer.new ≡ sets answer.old at values.now }
-{
-    answer[at..at + values.len()].copy_from_slice(values);
 }
 
 // A refusal: its number is returned, its place put in the first word.

@@ -1,5 +1,6 @@
 // The values of each report, in the order of the C interface.
 ghost use Rattle.std.specs.Prelude.{◌≡◌, [], ◌∷◌, ◌+◌, ◌-◌, ◌≤◌, length};
+ghost use Rattle.std.proofs.lemmas.List.Edits.{sets};
 ghost use Rattle.cutting.specs.Limits.{most_kinds};
 ghost use Rattle.cutting.specs.Lists.{over};
 ghost use Rattle.promises.specs.Calls.{plan_values, staged_values, bound_values, two_values, write_values, exact_values, certificate_values, neat_values};
@@ -9,24 +10,30 @@ ghost use Rattle.promises.specs.True.{true_values};
 ghost use Rattle.promises.specs.Orders.{plates_values, lagrangian_values};
 ghost use Rattle.answer_words.specs.Words.{GapWithin, InOrder, part_values};
 
-use crate::{Words, put_behind, put_words};
+use crate::{Words, put_words};
 use promises::{
     BoundReport, Certificate, ExactReport, LagrangianReport, Part, PlatesReport, Report, SawReport,
     StagedReport, TrueReport, TwoReport, WeightsFound, WriteReport,
 };
 
-// The copies of 64 kinds as words.
-fn copy_words(copies: [u16; 64]) -> [u64; 64]
-    ensures { (result ≡ copies) × (length copies ≡ most_kinds) }
+// The copies of 64 kinds, from word `at` on. Each is stored as it is read: an array of words between would take as long as a short call.
+fn put_copies(copies: &[u16; 64], at: usize, answer: &mut [u64])
+    requires { at + 64 ≤ length answer.old }
+    ensures { (answer.new ≡ sets answer.old at copies.now) × (length copies.now ≡ most_kinds) }
 {
-    copies.map(u64::from)
+    for i in 0..64 {
+        answer[at + i] = u64::from(copies[i]);
+    }
 }
 
-// The weights of 64 kinds as words.
-fn weight_words(weights: [u8; 64]) -> [u64; 64]
-    ensures { (result ≡ weights) × (length weights ≡ most_kinds) }
+// The weights of 64 kinds, in the same way.
+fn put_weights(weights: &[u8; 64], at: usize, answer: &mut [u64])
+    requires { at + 64 ≤ length answer.old }
+    ensures { (answer.new ≡ sets answer.old at weights.now) × (length weights.now ≡ most_kinds) }
 {
-    weights.map(u64::from)
+    for i in 0..64 {
+        answer[at + i] = u64::from(weights[i]);
+    }
 }
 
 // A check, which has no values.
@@ -174,7 +181,7 @@ fn put_report(r: &Report, answer: &mut [u64])
     ensures { (answer.new ≡ over (plan_values r.now) answer.old) × (length (plan_values r.now) ≡ 69) }
 {
     put_words(&[r.profit, r.pieces, r.waste, r.trim], answer);
-    put_behind(&copy_words(r.copies), 4, answer);
+    put_copies(&r.copies, 4, answer);
     answer[68] = r.sawdust;
 }
 
@@ -206,7 +213,7 @@ impl Words for SawReport {
 
     fn put(&self, answer: &mut [u64]) {
         put_words(&[self.pieces, self.waste, self.trim], answer);
-        put_behind(&copy_words(self.copies), 3, answer);
+        put_copies(&self.copies, 3, answer);
         answer[67] = self.sawdust;
     }
 }
@@ -218,6 +225,6 @@ impl Words for WeightsFound {
 
     fn put(&self, answer: &mut [u64]) {
         put_words(&[self.bound, u64::from(self.rounds)], answer);
-        put_behind(&weight_words(self.weights), 2, answer);
+        put_weights(&self.weights, 2, answer);
     }
 }

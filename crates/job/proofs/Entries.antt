@@ -1,8 +1,4 @@
 -- Laws of the record's arrays: their length, their entries, and one entry more by a store. One set of laws for all arrays.
-use Rattle.std.specs.Array.{IsFromFnResultFrom, IsFromFnResult}
-use Rattle.std.specs.Fn.{Called}
-use denote.Param.Members.{Mut}
-use mathlib.Core.Path.{subst}
 use Rattle.job.proofs.Prelude.{◌≡◌, refl, sym, ◌∙◌, ap, List, map, ℕ, zero, suc, ◌+◌, ◌≤◌, ◌<◌, ℕ_discrete, dec_lt, arith, lt-ltb, le-ltb, ltb, length, get_or, set, length-set, length-map, replicate, List·getD-eq-default, get_or-set_same, get_or-set_other, ext_get_or, range_length, range, only, entries}
 
 -- an entry of a mapped range
@@ -58,18 +54,3 @@ entries_more f i a v h e p = ap (λ a. set a i v) p ∙ ap (set (entries f i) i)
         split : Dec (k ≡ i) → get_or (set (entries f i) i (f i)) k 0 ≡ get_or (entries f (i + 1)) k 0
         split (yes d) = ap (λ k. get_or (set (entries f i) i (f i)) k 0) d ∙ get_or-set_same (entries f i) i (f i) 0 (omega (arith, entries_length f i)) ∙ sym (ap (λ k. get_or (entries f (i + 1)) k 0) d ∙ entries_at f (i + 1) i h ∙ ap (λ t. only t (f i)) (lt-ltb i (i + 1) (omega arith)))
         split (no d) = get_or-set_other (entries f i) i k (f i) 0 d ∙ entries_at f i k l ∙ at_other k d ∙ sym (entries_at f (i + 1) k l)
-
--- an array that a function makes of each number below 64: f at the first n, and 0 past them
-module _ {F : Type 0} (g : Mut F (ℕ × Unit {0}) ℕ) (made : F) (f : ℕ → ℕ) (n : ℕ) (calls : (i y : ℕ) (q : F) → Called g made (i, tt) y q → (q ≡ made) × (y ≡ only (ltb i n) (f i))) where
-  made_at : (ys : List ℕ) (i m : ℕ) → IsFromFnResultFrom g made ys i m → (k : ℕ) → i ≤ k → k < i + m → get_or ys k 0 ≡ only (ltb k n) (f k)
-  made_at ys i zero w k l h = absurd (omega arith)
-  made_at ys i (suc m) (q, y, at, call, rest) k l h =
-      let s = calls i y q call in
-      split (ℕ_discrete k i) s (λ (a : i + 1 ≤ k). made_at ys (i + 1) m (subst (λ q. IsFromFnResultFrom g q ys (i + 1) m) s.0 rest) k a (omega arith))
-    where
-      split : Dec (k ≡ i) → (q ≡ made) × (y ≡ only (ltb i n) (f i)) → (i + 1 ≤ k → get_or ys k 0 ≡ only (ltb k n) (f k)) → get_or ys k 0 ≡ only (ltb k n) (f k)
-      split (yes e) s more = rw e (at.1 0 ∙ s.1)
-      split (no d) s more = more (omega arith)
-
-  pub entries_made : (ys : List ℕ) → IsFromFnResult g made ys 64 → ys ≡ entries f n
-  entries_made ys w = ext_get_or 0 ys (entries f n) (w.long ∙ sym (entries_length f n)) (λ k l. let h : k < 64 = omega (arith, w.long) in made_at ys 0 64 w.each k (omega arith) (omega arith) ∙ sym (entries_at f n k h))

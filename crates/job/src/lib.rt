@@ -16,7 +16,6 @@ ghost use Rattle.job.specs.Clauses.{HoldsKinds, HoldsGrains, HoldsBlock, header_
 use cutting::{Sides, fits, turn, widen};
 use promises::{Choices, JobRecord, Refusal};
 use refusal::refuse_if;
-use std::array;
 
 // The same choices, and the old block.
 fn with_old_block(choices: Choices) -> Choices
@@ -238,13 +237,11 @@ fn read_fields(block: &[u8], from: usize, step: usize, n: u16) -> [u16; 64]
     requires { (n ≤ 64) × ((i : ℕ) → i < n → from + step * i + 2 ≤ length block.now) }
     ensures { result ≡ entries (λ i. u16_at block.now (from + step * i)) n }
 {
-    array::from_fn(|i| {
-        if i < n as usize {
-            read_u16(block, from + step * i)
-        } else {
-            0
-        }
-    })
+    let mut fields = [0; 64];
+    for i in 0..n as usize {
+        fields[i] = read_u16(block, from + step * i);
+    }
+    fields
 }
 
 // The same of fields of four bytes.
@@ -252,13 +249,11 @@ pub fn read_u32_fields(block: &[u8], from: usize, step: usize, n: u16) -> [u32; 
     requires { (n ≤ 64) × ((i : ℕ) → i < n → from + step * i + 4 ≤ length block.now) }
     ensures { result ≡ entries (λ i. u32_at block.now (from + step * i)) n }
 {
-    array::from_fn(|i| {
-        if i < n as usize {
-            read_u32(block, from + step * i)
-        } else {
-            0
-        }
-    })
+    let mut fields = [0; 64];
+    for i in 0..n as usize {
+        fields[i] = read_u32(block, from + step * i);
+    }
+    fields
 }
 
 // The prices.
@@ -274,7 +269,11 @@ fn read_bytes(block: &[u8], from: usize, n: u16) -> [u8; 64]
     requires { (n ≤ 64) × (from + n ≤ length block.now) }
     ensures { result ≡ entries (λ i. get_or block.now (from + i) 0) n }
 {
-    array::from_fn(|i| if i < n as usize { block[from + i] } else { 0 })
+    let mut bytes = [0; 64];
+    for i in 0..n as usize {
+        bytes[i] = block[from + i];
+    }
+    bytes
 }
 
 // The grain bytes, 0 where the block has none.

@@ -1,8 +1,10 @@
 -- `job::read_bytes` meets its contract.
-use Rattle.std.proofs.Common.{rules, tests}
-use Rattle.job.proofs.Prelude.{◌+◌, arith, lt-ltb, le-ltb, get_or}
-use Rattle.job.proofs.Entries.{entries_made}
+use Rattle.job.proofs.Prelude.{refl, ◌+◌, arith, get_or}
+use Rattle.job.proofs.Entries.{entries_none, entries_more}
 use Rattle.job.proofs.read_bytes.Goals as goal
 
-pub returns : goal.returns
-returns c = let a = c.args in entries_made _ _ (λ i. get_or a.block.now (a.from + i) 0) a.n (λ i y q call. (search (rules, tests), grind (arith, lt-ltb, le-ltb))) c.from_fn.result c.from_fn.ensures.items
+pub loop-i-init : goal.loop-i-init
+loop-i-init c = entries_none (λ k. get_or c.args.block.now (c.args.from + k) 0)
+
+pub loop-i-preserved : goal.loop-i-preserved
+loop-i-preserved c = entries_more (λ k. get_or c.args.block.now (c.args.from + k) 0) c.loop-i.i c.loop-i.bytes _ (omega (arith, c.requires.0)) refl c.loop-i.invariant

@@ -1,8 +1,10 @@
 -- `job::read_fields` meets its contract.
-use Rattle.std.proofs.Common.{rules, tests}
-use Rattle.job.proofs.Prelude.{◌+◌, ◌*◌, arith, lt-ltb, le-ltb, u16_at}
-use Rattle.job.proofs.Entries.{entries_made}
+use Rattle.job.proofs.Prelude.{◌+◌, ◌*◌, arith, u16_at}
+use Rattle.job.proofs.Entries.{entries_none, entries_more}
 use Rattle.job.proofs.read_fields.Goals as goal
 
-pub returns : goal.returns
-returns c = let a = c.args in entries_made _ _ (λ i. u16_at a.block.now (a.from + a.step * i)) a.n (λ i y q call. (search (rules, tests), grind (arith, lt-ltb, le-ltb))) c.from_fn.result c.from_fn.ensures.items
+pub loop-i-init : goal.loop-i-init
+loop-i-init c = entries_none (λ k. u16_at c.args.block.now (c.args.from + c.args.step * k))
+
+pub loop-i-preserved : goal.loop-i-preserved
+loop-i-preserved c = entries_more (λ k. u16_at c.args.block.now (c.args.from + c.args.step * k)) c.loop-i.i c.loop-i.fields _ (omega (arith, c.requires.0)) c.read_u16.ensures c.loop-i.invariant

@@ -1,0 +1,5 @@
+use Rattle.answer_words.proofs.Prelude.{◌≡◌, length, paste}
+use Rattle.answer_words.proofs.reports.put_weights.Given as goal
+
+abbrev pub invariant-loop-i : goal.invariant-loop-i
+invariant-loop-i l = (length l.answer ≡ length l.initial.answer) × (l.answer ≡ paste l.initial.answer l.at l.weights l.i)
