@@ -19,11 +19,11 @@ pub fn worth(count: u16, demands: &[u16; 64], amounts: &[u32]) -> u64
     requires { Summable count demands.now amounts.now }
     ensures { (result ≡ sum count (λ i. get_or demands.now i 0 * amount_in amounts.now i)) × (result ≤ most_worth) }
 {
-    demands[..count as usize]
-        .iter()
-        .zip(amounts)
-        .map(|(&copies, &amount)| times(copies, amount))
-        .sum()
+    let mut total = 0;
+    for k in 0..count as usize {
+        total += times(demands[k], amounts[k]);
+    }
+    total
 }
 
 // The plates needed for what is left of a worth where no plate earns more than a bound: 2^64 - 1 where the bound is 0 and something is left.
