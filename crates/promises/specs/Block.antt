@@ -147,7 +147,7 @@ record_of s choices = record {
   grains = grains_of choices.grain (sizes_end choices.old_block) s;
 }
 
--- the same record with every price 0, the saw's record of a block, and that of a refused block
+-- the same record with every price 0, the saw's record of a block, and a record of zeros
 abbrev pub unpriced : JobRecord → JobRecord
 unpriced j = record { length = j.length; width = j.width; count = j.count; kerf = j.kerf; turning = j.turning; full_demand = j.full_demand; lengths = j.lengths; widths = j.widths; prices = entries (λ i. 0) 0; demands = j.demands; grains = j.grains }
 

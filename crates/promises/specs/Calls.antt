@@ -1,4 +1,4 @@
--- The public calls on one plate, each an instance: its answer's form, its checks in order, its report, and what it promises besides. The
+-- The public calls on one plate, each an instance: its answer's values, its checks in order, its report, and what it promises besides. The
 -- calls `.._full_demand` and `read_old_job` are the same at `with_full_demand choices` and `with_old_block choices`.
 -- docs/SCOPE.md: What contracts say; The table of refusals.
 use Rattle.std.specs.Prelude.{◌≡◌, Bool, true, false, List, [], ◌∷◌, ◌++◌, ℕ, ◌+◌, ◌-◌, ◌≤◌, eqb, length, Ok, Err}

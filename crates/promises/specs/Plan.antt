@@ -122,7 +122,7 @@ tree_report J t = record {
   sawdust = sawdust_area J.kerf J.plate t;
 }
 
--- the report of a refused plan: zeros
+-- the report before any node is read: zeros
 abbrev pub empty_report : Report
 empty_report = record { profit = 0; copies = replicate most_kinds 0; pieces = 0; waste = 0; trim = 0; sawdust = 0 }
 

@@ -117,7 +117,7 @@ unfoldable pub best_round : Job → ℕ → ℕ → ℕ
 best_round J lower zero = 0
 best_round J lower (suc n) = pick_number (ltb (bound_at J lower (suc n)) (bound_at J lower (best_round J lower n))) (suc n) (best_round J lower n)
 
--- an answer: the bound, the rounds run and 64 weights; its values in that order; zeros where a check refuses
+-- an answer: the bound, the rounds run and 64 weights; its values in that order
 abbrev pub found_values : WeightsFound → List ℕ
 found_values a = a.bound ∷ a.rounds ∷ a.weights
 

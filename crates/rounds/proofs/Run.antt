@@ -221,13 +221,15 @@ module _ (s : List ℕ) (choices : Choices) (good : first_refusal (job_checks s 
         unfolding last_here
         refused_last f = st.decides ∙ last_stops (block_job s choices) lower m (17 - k) k (ap (λ v. refuses v || stops_after (block_job s choices) lower k) (refused_here f))
 
-        pub ends_first : {x : Refusal} → r ≡ Err x → k ≡ 0 → (Err x ≡ run_answer (block_job s choices) lower m) × RunLeaves (block_job s choices) lower m new
-        ends_first f z = (refused_first (block_job s choices) lower m k z (refused_here f), leave_all (refused_last f))
-
-        pub ends_later : {x : Refusal} → r ≡ Err x → (k ≡ 0 → ⊥) → (Ok a ≡ run_answer (block_job s choices) lower m) × RunLeaves (block_job s choices) lower m new
-        ends_later f z =
-            let l = refused_last f in
-            (refused_later (block_job s choices) lower m k (st.begun (omega (arith, z))) st.found_is l (refused_here f), leave_all l)
+        -- the answer is then the first round's refusal, or what the rounds before a later one found
+        pub ends_refused : {x : Refusal} → r ≡ Err x
+            → (k ≡ 0 → Err x ≡ run_answer (block_job s choices) lower m) × ((k ≡ 0 → ⊥) → Ok a ≡ run_answer (block_job s choices) lower m) × RunLeaves (block_job s choices) lower m new
+        ends_refused f =
+            let l = refused_last f in (
+              λ z. refused_first (block_job s choices) lower m k z (refused_here f),
+              λ z. refused_later (block_job s choices) lower m k (st.begun (omega (arith, z))) st.found_is l (refused_here f),
+              leave_all l,
+            )
 
         module _ {report : WriteReport} (f : r ≡ Ok report) where
           -- what the round's end asks

@@ -1,6 +1,6 @@
 -- `rounds::run_rounds` meets its contract.
 use Rattle.rounds.proofs.Prelude.{sym, ◌∙◌, ap, JobRecord, lent_all}
-use Rattle.rounds.proofs.Run.{starts, weights_room, weights_listed, leaves, made, ends_over, goes_on, ends_first, ends_later}
+use Rattle.rounds.proofs.Run.{starts, weights_room, weights_listed, leaves, made, ends_over, goes_on, ends_refused}
 use Rattle.rounds.proofs.run_rounds.Goals as goal
 
 pub loop-k-init : goal.loop-k-init
@@ -25,8 +25,8 @@ returns-in-Err c = let l = c.loop-k in
     let w = c.write_plan-written in
     let new = lent_all w.new.lengths w.new.widths w.new.table w.new.kinds w.new.operands in
     let left = leaves c.args.block.now c.args.choices c.requires.1 c.args.lower m size l.invariant {new = new} w.ensures.memory w.ensures.kinds_left w.ensures.operands_left in
-    let e = ends_first c.args.block.now c.args.choices c.requires.1 c.args.lower m size l.invariant w.ensures.answers left c.in-Err.is c.if-k-eq0.true in
-    record { answers = e.0; memory = e.1 }
+    let e = ends_refused c.args.block.now c.args.choices c.requires.1 c.args.lower m size l.invariant w.ensures.answers left c.in-Err.is in
+    record { answers = e.0 c.if-k-eq0.true; memory = e.2 }
 
 pub returns-in-Err-2 : goal.returns-in-Err-2
 returns-in-Err-2 c = let l = c.loop-k in
@@ -35,8 +35,8 @@ returns-in-Err-2 c = let l = c.loop-k in
     let w = c.write_plan-written in
     let new = lent_all w.new.lengths w.new.widths w.new.table w.new.kinds w.new.operands in
     let left = leaves c.args.block.now c.args.choices c.requires.1 c.args.lower m size l.invariant {new = new} w.ensures.memory w.ensures.kinds_left w.ensures.operands_left in
-    let e = ends_later c.args.block.now c.args.choices c.requires.1 c.args.lower m size l.invariant w.ensures.answers left c.in-Err-2.is c.if-k-eq0.false in
-    record { answers = e.0; memory = e.1 }
+    let e = ends_refused c.args.block.now c.args.choices c.requires.1 c.args.lower m size l.invariant w.ensures.answers left c.in-Err-2.is in
+    record { answers = e.1 c.if-k-eq0.false; memory = e.2 }
 
 pub next_round-turn-requires : goal.next_round-turn-requires
 next_round-turn-requires c = let l = c.loop-k in
